@@ -1,0 +1,3 @@
+pub mod Int
+pub mod Float
+pub mod Lane

@@ -1,0 +1,2 @@
+pub mod Op
+pub mod Storage

@@ -1,0 +1,2 @@
+// Ops and the patch file.
+pub mod op;

@@ -1,0 +1,6 @@
+// How Get reads and how Put writes.
+pub enum Mode {
+    Char,
+    Int,
+    Other,
+}

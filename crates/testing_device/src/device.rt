@@ -1,0 +1,5 @@
+// What Get gives: the value, and the input place after what it took.
+pub enum Got {
+    Value(u64, usize),
+    Empty,
+}

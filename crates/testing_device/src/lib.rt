@@ -1,0 +1,2 @@
+// The testing device: input values, output values and the channel, over lent slices.
+pub mod device;
