@@ -2,4 +2,4 @@ pub mod Ints
 pub mod Bits
 pub mod Floats
 pub mod Rem
-pub mod Loops
+pub mod Turns
