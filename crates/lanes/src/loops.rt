@@ -17,10 +17,10 @@ fn zip_lanes(op: CellOp, register: &mut [u64], cells: &[u64], n: usize)
     requires { ⌜ n ≤ length (now cells) ⌝ }
     ensures { λ _. ⌜ now (register .exit) ≡ zipTo (cellRule op) n (now (register .entry)) (now (cells .entry)) ⌝ }
 {
-    let mut i = 0;
-    while i < n {
-        register[i] = cell_rule(op, register[i], cells[i]);
-        i += 1;
+    let mut lane = 0;
+    while lane < n {
+        register[lane] = cell_rule(op, register[lane], cells[lane]);
+        lane += 1;
     }
 }
 
