@@ -1,9 +1,9 @@
 -- What the proofs of the bit lanes share: a machine operation on bits is `bitwise` of its rule on one digit, proved once for any such operation,
--- and `bitwise` of the other digits is the complement. Assumes nothing.
+-- `bitwise` of the other digits is the complement, and each digit of the result is the rule of the two digits there. Assumes nothing.
 use mathlib.Core.Path.{_≡_, refl, sym, _∙_, ap, ap₂}
-use Prim.Native.Nat.{ℕ, zero, suc, _+_, _-_, _*_, _/_, _%_, _^_, _<_, _≤_, min, max}
+use Prim.Native.Nat.{ℕ, zero, suc, _+_, _-_, _*_, _/_, _%_, _^_, _<_, min, max}
 use native.Mathlib.Omega.{arith}
-use native.Mathlib.Nat.{mod-lt, pow-suc, zero-lt-suc}
+use native.Mathlib.Nat.{pow-suc, pow-succ', div-div-eq-div-mul, not-suc-le-zero, le-of-suc-le-suc}
 use mathlib.Core.Bool.{_&&_}
 use lib.Dec.{T, ltb, ltb→lt}
 use lib.Ieee.Fits.{and-l, and-r}
@@ -79,3 +79,28 @@ nand-is a b h k = rw (and-is a b h k) (omega (arith, complement bothDigits (digi
 -- the result has k digits
 pub bitwise-below : (f : ℕ → ℕ → ℕ) → ((x y : ℕ) → x < 2 → y < 2 → f x y < 2) → (k a b : ℕ) → bitwise f k a b < 2 ^ k
 bitwise-below f rule k a b = omega (arith, complement f rule k a b)
+
+-- ---- the digit at the place i
+shifted : (n i : ℕ) → n / 2 ^ suc i ≡ n / 2 / 2 ^ i
+shifted n i = ap (λ (m : ℕ). n / m) (pow-succ' 2 i) ∙ sym (div-div-eq-div-mul n 2 (2 ^ i))
+
+whole : (n : ℕ) → n / 1 ≡ n
+whole n = omega arith
+
+last : (d r : ℕ) → d < 2 → (d + 2 * r) / 1 % 2 ≡ d
+last d r h = omega arith
+
+others : (d r : ℕ) → d < 2 → (d + 2 * r) / 2 ≡ r
+others d r h = omega arith
+
+pub digit-of : (f : ℕ → ℕ → ℕ) → ((x y : ℕ) → x < 2 → y < 2 → f x y < 2) → (k i a b : ℕ) → i < k → bitwise f k a b / 2 ^ i % 2 ≡ f (a / 2 ^ i % 2) (b / 2 ^ i % 2)
+unfolding bitwise
+digit-of f rule zero i a b h = absurd (not-suc-le-zero h)
+digit-of f rule (suc k) zero a b h =
+    last (f (a % 2) (b % 2)) (bitwise f k (a / 2) (b / 2)) (rule (a % 2) (b % 2) (digit a) (digit b)) ∙ ap₂ (λ (x y : ℕ). f (x % 2) (y % 2)) (sym (whole a)) (sym (whole b))
+digit-of f rule (suc k) (suc i) a b h =
+    let d = f (a % 2) (b % 2) in
+    let r = bitwise f k (a / 2) (b / 2) in
+    ap (λ (n : ℕ). n % 2) (shifted (d + 2 * r) i ∙ ap (λ (n : ℕ). n / 2 ^ i) (others d r (rule (a % 2) (b % 2) (digit a) (digit b))))
+    ∙ digit-of f rule k i (a / 2) (b / 2) (le-of-suc-le-suc h)
+    ∙ ap₂ (λ (x y : ℕ). f (x % 2) (y % 2)) (sym (shifted a i)) (sym (shifted b i))

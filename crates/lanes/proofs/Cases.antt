@@ -1,6 +1,6 @@
 -- Cases 1, 2 and 13 of 01-scope.md's table, as one computed list. Assumes nothing.
 use mathlib.Core.Path.{_≡_, refl}
-use mathlib.Core.List.{List, [], _∷_}
+use mathlib.Core.List.{[], _∷_}
 use Prim.Native.Nat.{ℕ, _-_}
 use lib.Ieee as ieee
 use Rattle.lanes.specs.Int.{intDiv, intRem, intShl}
