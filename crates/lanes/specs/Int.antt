@@ -20,10 +20,12 @@ abbrev pub signedBy : Bool → ℕ → ℤ
 signedBy true n = negℤ (pos n)
 signedBy false n = pos n
 
+-- a truth as 0 or 1
 abbrev pub bit : Bool → ℕ
 bit true = 1
 bit false = 0
 
+-- sums, Inc, Dec, Offset, Index, Neg and products wrap at 64 bits; Offset and Index are sums
 abbrev pub intAdd : ℕ → ℕ → ℕ
 intAdd a b = wrap (signed a +ℤ signed b)
 
@@ -46,17 +48,19 @@ intDec a = wrap (signed a -ℤ pos 1)
 abbrev pub intDiv : ℕ → ℕ → ℕ
 intDiv a b = cond (eqb b 0) a (wrap (quotZ (signed a) (signed b)))
 
+-- what that quotient leaves, with the sign of the lane; the divisor 0 leaves the lane
 abbrev pub intRem : ℕ → ℕ → ℕ
 intRem a b = cond (eqb b 0) a (wrap (remZ (signed a) (signed b)))
 
+-- shift counts are taken modulo 64
 abbrev pub intShl : ℕ → ℕ → ℕ
 intShl a b = wrap (signed a *ℤ pos (2 ^ (b % 64)))
 
--- the pattern as an unsigned number
+-- to the right, the pattern as an unsigned number
 abbrev pub intShr : ℕ → ℕ → ℕ
 intShr a b = a / 2 ^ (b % 64)
 
--- rounded down
+-- to the right, the integer rounded down
 abbrev pub intSar : ℕ → ℕ → ℕ
 intSar a b = wrap (shrZ (signed a) (2 ^ (b % 64)))
 
@@ -98,6 +102,7 @@ bitNot a = wrap (negsuc 0 -ℤ signed a)
 
 -- ---- as truth: 0 is false, any other pattern true
 
+-- And, Or, Not give 0 or 1
 abbrev pub boolAnd : ℕ → ℕ → ℕ
 boolAnd a b = bit (not (eqb a 0) && not (eqb b 0))
 
@@ -107,5 +112,6 @@ boolOr a b = bit (not (eqb a 0) || not (eqb b 0))
 abbrev pub boolNot : ℕ → ℕ
 boolNot a = bit (eqb a 0)
 
+-- 1 where the integer is not negative
 abbrev pub intGez : ℕ → ℕ
 intGez a = bit (nonNeg (signed a))

@@ -1,0 +1,8 @@
+pub mod Ints
+pub mod Bits
+pub mod Floats
+pub mod Values
+pub mod Rem
+pub mod Turns
+pub mod Below
+pub mod Cases
