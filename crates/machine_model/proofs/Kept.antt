@@ -315,7 +315,7 @@ module _ (g : Given) (lim : Limited (g .ops)) where
     exec-in (set k vs) is h = formed _ here places (with-reg vs h)
     exec-in (plain p) is h = act-in p h
 
-  step-leads : (s : State) → Formed g s → Leads (Formed g) (step g s)
+  pub step-leads : (s : State) → Formed g s → Leads (Formed g) (step g s)
   unfolding step op
   step-leads s f =
       pick-leads (Formed g) _ _ _ (λ _. ended)

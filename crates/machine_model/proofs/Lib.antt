@@ -3,3 +3,5 @@ pub mod Scans
 pub mod Table
 pub mod Outcomes
 pub mod Kept
+pub mod WordsKept
+pub mod Refused

@@ -47,3 +47,8 @@ module _ (P : State → Type 0) where
     pub run-keeps : (b : ℕ) (s : State) → P s → P ((run g b s) .state)
     unfolding run
     run-keeps b s p = drive-keeps b 0 s (step g s) p (keeps s p)
+
+pub both-lead : (P Q : State → Type 0) (o : Outcome) → Leads P o → Leads Q o → Leads (λ s. P s × Q s) o
+both-lead P Q finished p q = ended
+both-lead P Q (refused n) p q = stopped
+both-lead P Q (next t) p q = goes (next-leads P (next t) t p refl, next-leads Q (next t) t q refl)
