@@ -5,3 +5,4 @@ pub mod Outcomes
 pub mod Kept
 pub mod WordsKept
 pub mod Refused
+pub mod Cases
