@@ -2,16 +2,15 @@
 use Prim.Native.Nat.{ℕ, _-_, _^_}
 use mathlib.Core.Path.{_≡_, refl}
 use mathlib.Core.List.{List, [], _∷_, _++_, map}
-use lib.ListN.{length, getD}
 use Rattle.lanes.specs.declared.lane.CellOp.the-variants.{Add}
 use Rattle.lanes.specs.declared.lane.LaneOp.the-variants.{Dec}
 use Rattle.ops.specs.declared.op.Mode.the-variants.{Char, Int, Other}
 use Rattle.ops.specs.Op.{Op}
 use Rattle.ops.specs.Op.Control.{function, call, ret, while, if, else, end}
-use Rattle.ops.specs.Op.Plain.{comment, store, move, locate, offset, deref, refer, cell, lane, get, put, peek, poke, alloc}
+use Rattle.ops.specs.Op.Plain.{store, move, locate, offset, deref, refer, cell, lane, get, put, peek, poke, alloc}
 use Rattle.ops.specs.Op.Sort.{ints}
 use Rattle.ops.specs.Op.Op.{control, set, load, plain}
-use Rattle.machine_model.specs.State.{State, Given, fresh, withTape, lane0}
+use Rattle.machine_model.specs.State.{fresh, withTape, lane0}
 use Rattle.machine_model.specs.Run.{Answer, run}
 
 -- a run from the fresh state: the lent tape, the room for outputs and the budget, the ops, and what is seen of the answer: number, steps and

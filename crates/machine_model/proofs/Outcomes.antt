@@ -1,11 +1,11 @@
 -- A property of the state that a step gives, through a step's tests, and through a run where every step keeps it. Assumes nothing.
 use Prim.Native.Nat.{ℕ, zero, suc}
-use mathlib.Core.Path.{_≡_, refl, ap, sym, _∙_, subst}
+use mathlib.Core.Path.{_≡_, refl, subst}
 use mathlib.Core.Bool.{Bool, true, false, _||_}
 use Rattle.machine_model.specs.State.{State, Given}
 use Rattle.machine_model.specs.Step.{Outcome, bar, pick, step}
 use Rattle.machine_model.specs.Step.Outcome.{finished, refused, next}
-use Rattle.machine_model.specs.Run.{Answer, answer, drive, run}
+use Rattle.machine_model.specs.Run.{drive, run}
 use Rattle.machine_model.proofs.Scans.{clash}
 
 pub or-right : (a b : Bool) → (a || b) ≡ false → b ≡ false

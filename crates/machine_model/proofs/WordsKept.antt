@@ -1,16 +1,16 @@
 -- A step leads from a state whose values are 64-bit words to another, where the lane rules give words; so does a run. Assumes nothing.
 use Prim.Native.Nat.{ℕ, zero, suc, _+_, _-_, _*_, _/_, _%_, _^_, _≤_, _<_}
 use native.Mathlib.Omega.{arith}
-use borrow.Author.Tests.{ltb-true, ltb-false, leb-false}
-use mathlib.Core.Path.{_≡_, refl, ap, sym, _∙_, subst}
-use mathlib.Core.Bool.{Bool, true, false, cond, _||_}
+use borrow.Author.Tests.{ltb-true}
+use mathlib.Core.Path.{_≡_, refl}
+use mathlib.Core.Bool.{Bool, true, false, cond}
 use mathlib.Core.List.{List, [], _∷_, _++_, reverse}
 use mathlib.Core.Option.{Option, none, some}
-use lib.Dec.{leb, ltb, eqb}
-use lib.ListN.{length, take, drop, getD}
+use lib.Dec.{ltb}
+use lib.ListN.{length, take, drop}
 use lib.ListN
 use Rattle.lanes.specs.Int.{intAdd}
-use Rattle.lanes.specs.Lane.{cellRule, laneRule, zipTo, mapTo}
+use Rattle.lanes.specs.Lane.{cellRule, laneRule}
 use Rattle.lanes.specs.declared.lane.CellOp.{CellOp}
 use Rattle.lanes.specs.declared.lane.CellOp.the-variants.{Index}
 use Rattle.lanes.specs.declared.lane.LaneOp.{LaneOp}
@@ -23,16 +23,16 @@ use Rattle.ops.specs.declared.op.Mode.the-variants.{Char, Int, Other}
 use Rattle.testing_device.specs.declared.device.Got.{Got}
 use Rattle.testing_device.specs.declared.device.Got.the-variants.{Value, Empty}
 use Rattle.testing_device.specs.Device.{getOf, putOf, decimalFrom, decimal, written, intFrom, charFrom, leading, isSpace, isDigit}
-use Rattle.machine_model.specs.State.{State, Given, fresh, lanes, farthest, longest, lane0, goTo, on, withTable}
+use Rattle.machine_model.specs.State.{State, Given, fresh, lanes, lane0, goTo, on, withTable}
 use Rattle.machine_model.specs.Scan.{opAt, marks, functions, toOpen, kth}
-use Rattle.machine_model.specs.Step.{Outcome, jump, endOf, elseOf, found, back, again, turn, enter, minus, cells, stored, grown, derefTo, referTo, moveBy, gotten, write, peekAt, act, exec, op, step}
+use Rattle.machine_model.specs.Step.{jump, endOf, elseOf, found, back, again, turn, enter, minus, cells, stored, grown, referTo, moveBy, gotten, peekAt, act, exec, op, step}
 use Rattle.machine_model.specs.Step.Outcome.{next}
 use Rattle.machine_model.specs.Run.{run}
 use Rattle.machine_model.specs.Formed.{Each, Formed}
 use Rattle.machine_model.specs.Limited.{Word, numbers, Limited}
 use Rattle.machine_model.specs.Words.{Words}
 use Rattle.machine_model.proofs.Each.{each-append, each-end, each-take, each-drop, each-getD, each-set, each-replicate, each-map, each-zip}
-use Rattle.machine_model.proofs.Outcomes.{or-right, Leads, bar-leads, pick-leads, next-leads, both-lead, run-keeps}
+use Rattle.machine_model.proofs.Outcomes.{Leads, bar-leads, pick-leads, next-leads, both-lead, run-keeps}
 use Rattle.machine_model.proofs.Outcomes.Leads.{ended, stopped, goes}
 use Rattle.machine_model.proofs.Kept.{step-leads}
 
