@@ -1,5 +1,6 @@
 pub mod Each
 pub mod Scans
+pub mod Stacks
 pub mod Table
 pub mod Outcomes
 pub mod Kept
