@@ -1,0 +1,41 @@
+-- A well-formed state, which is what 37 tests. Assumes nothing.
+use Prim.Native.Nat.{ℕ, _≤_, _<_}
+use mathlib.Core.Path.{_≡_}
+use mathlib.Core.Bool.{true}
+use mathlib.Core.List.{List, [], _∷_}
+use lib.ListN.{length}
+use Rattle.ops.specs.Op.{isFunction}
+use Rattle.machine_model.specs.State.{State, Given, mostMarks, lanes, depth, farthest, longest}
+use Rattle.machine_model.specs.Scan.{opAt}
+
+-- every number of the list has the property
+abbrev pub Each : (ℕ → Type 0) → List ℕ → Type 0
+Each P [] = Unit {0}
+Each P (x ∷ xs) = P x × Each P xs
+
+-- "rises strictly": each number is below all that come after it
+abbrev pub Rising : List ℕ → Type 0
+Rising [] = Unit {0}
+Rising (x ∷ xs) = Each (λ y. x < y) xs × Rising xs
+
+-- the place of a Function mark
+abbrev pub Marked : Given → ℕ → Type 0
+Marked g t = isFunction (opAt (g .ops) t) ≡ true
+
+-- "A state is well formed when its limits hold, position is at most the op count, saved calls are below the op count, saved pointers within
+-- limit, the function table rises strictly and names Function marks, input place and output count fit their slices"
+pub record Formed (g : Given) (s : State) : Type 0 where
+  pub near : s .pointer ≤ farthest
+  pub short : s .counted ≤ longest
+  pub narrow : length (s .reg) ≤ lanes
+  pub few-entered : length (s .table) ≤ mostMarks
+  pub few-calls : length (s .calls) ≤ depth
+  pub few-refs : length (s .refs) ≤ depth
+  pub few-sent : length (s .channel) ≤ depth
+  pub within : s .at ≤ length (g .ops)
+  pub saved : Each (λ c. c < length (g .ops)) (s .calls)
+  pub pointed : Each (λ p. p ≤ farthest) (s .refs)
+  pub rising : Rising (s .table)
+  pub marked : Each (Marked g) (s .table)
+  pub read : s .taken ≤ length (g .input)
+  pub fits : length (s .outs) ≤ g .room

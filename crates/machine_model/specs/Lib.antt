@@ -1,0 +1,8 @@
+-- The machine: its state, the searches of the patch, a step, a run, and the well-formed state.
+pub mod State
+pub mod Scan
+pub mod Step
+pub mod Run
+pub mod Formed
+pub mod Limited
+pub mod Words

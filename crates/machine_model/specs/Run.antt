@@ -1,0 +1,31 @@
+-- A run: steps until the machine is finished, the budget is spent or a step is refused. Assumes nothing.
+use Prim.Native.Nat.{ℕ, zero, suc}
+use Rattle.machine_model.specs.State.{State, Given}
+use Rattle.machine_model.specs.Step.{Outcome, bar, pick, step}
+use Rattle.machine_model.specs.Step.Outcome.{finished, refused, next}
+
+-- number, steps made and place as in the table 'Numbers given back', and the state that is left
+pub record Answer : Type 0 where
+  pub number : ℕ
+  pub steps : ℕ
+  pub place : ℕ
+  pub state : State
+
+-- the place is that of the next op, or of the refused one: the position
+abbrev pub answer : ℕ → ℕ → State → Answer
+answer n k s = record { number = n; steps = k; place = s .at; state = s }
+
+-- b steps may still be made, k are made, and o is what a step from s gives: "halted or at the end gives 0; steps equal to budget gives 50",
+-- before any refusal; "refused at a step, earlier steps stand"
+unfoldable pub drive : Given → ℕ → ℕ → State → Outcome → Answer
+drive g zero k s finished = answer 0 k s
+drive g zero k s (refused n) = answer 50 k s
+drive g zero k s (next t) = answer 50 k s
+drive g (suc b) k s finished = answer 0 k s
+drive g (suc b) k s (refused n) = answer n k s
+drive g (suc b) k s (next t) = drive g b (suc k) t (step g t)
+
+-- a run of at most b steps from the state s
+unfoldable pub run : Given → ℕ → State → Answer
+unfolding drive step bar pick
+run g b s = drive g b 0 s (step g s)

@@ -1,0 +1,137 @@
+-- The machine's limits, its state, its fresh state, and the changes of a state. Assumes nothing.
+use Prim.Native.Nat.{ℕ, suc}
+use mathlib.Core.Bool.{Bool, true, false}
+use mathlib.Core.List.{List, []}
+use lib.ListN.{replicate, getD}
+use lib.ListN
+use Rattle.ops.specs.Op.{Op}
+
+-- ---- "Limits, each the last accepted"
+
+-- "4,096 ops"
+abbrev pub mostOps : ℕ
+mostOps = 4096
+
+-- "256 Function marks"
+abbrev pub mostMarks : ℕ
+mostMarks = 256
+
+-- "1,024 lanes"
+abbrev pub lanes : ℕ
+lanes = 1024
+
+-- "calls, refs and channel 256 each"
+abbrev pub depth : ℕ
+depth = 256
+
+-- "pointer 1,000,000,000"
+abbrev pub farthest : ℕ
+farthest = 1_000_000_000
+
+-- "counted tape length 2,000,000,000"
+abbrev pub longest : ℕ
+longest = 2_000_000_000
+
+-- ---- the state
+
+-- what a run is given and does not change: the ops, the input values, and the room for outputs
+pub record Given : Type 0 where
+  pub ops : List Op
+  pub input : List ℕ
+  pub room : ℕ
+
+-- position, pointer and counted length; register, lent tape and function table; the saved calls, the saved pointers and the channel, the
+-- newest last; the input place, the outputs, and whether it has halted
+pub record State : Type 0 where
+  pub at : ℕ
+  pub pointer : ℕ
+  pub counted : ℕ
+  pub reg : List ℕ
+  pub tape : List ℕ
+  pub table : List ℕ
+  pub calls : List ℕ
+  pub refs : List ℕ
+  pub channel : List ℕ
+  pub taken : ℕ
+  pub outs : List ℕ
+  pub halted : Bool
+
+-- "Fresh: 1,024 zero lanes; pointer, position and counted length 0; stacks, table and channel empty; input place and output count 0; not
+-- halted", and "zeros to the lent tape", which has so many cells
+unfoldable pub fresh : ℕ → State
+fresh cells =
+    record {
+      at = 0;
+      pointer = 0;
+      counted = 0;
+      reg = replicate lanes 0;
+      tape = replicate cells 0;
+      table = [];
+      calls = [];
+      refs = [];
+      channel = [];
+      taken = 0;
+      outs = [];
+      halted = false;
+    }
+
+-- the number in lane 0, where Call, If, While, End and the others with one lane find theirs
+abbrev pub lane0 : State → ℕ
+lane0 s = getD (s .reg) 0 0
+
+-- ---- changes of a state: one field new, the others as they were
+
+abbrev pub goTo : State → ℕ → State
+goTo s p =
+    record { at = p; pointer = s .pointer; counted = s .counted; reg = s .reg; tape = s .tape; table = s .table; calls = s .calls; refs = s .refs; channel = s .channel; taken = s .taken; outs = s .outs; halted = s .halted }
+
+abbrev pub withPointer : State → ℕ → State
+withPointer s p =
+    record { at = s .at; pointer = p; counted = s .counted; reg = s .reg; tape = s .tape; table = s .table; calls = s .calls; refs = s .refs; channel = s .channel; taken = s .taken; outs = s .outs; halted = s .halted }
+
+abbrev pub withCounted : State → ℕ → State
+withCounted s n =
+    record { at = s .at; pointer = s .pointer; counted = n; reg = s .reg; tape = s .tape; table = s .table; calls = s .calls; refs = s .refs; channel = s .channel; taken = s .taken; outs = s .outs; halted = s .halted }
+
+abbrev pub withReg : State → List ℕ → State
+withReg s r =
+    record { at = s .at; pointer = s .pointer; counted = s .counted; reg = r; tape = s .tape; table = s .table; calls = s .calls; refs = s .refs; channel = s .channel; taken = s .taken; outs = s .outs; halted = s .halted }
+
+abbrev pub withTape : State → List ℕ → State
+withTape s t =
+    record { at = s .at; pointer = s .pointer; counted = s .counted; reg = s .reg; tape = t; table = s .table; calls = s .calls; refs = s .refs; channel = s .channel; taken = s .taken; outs = s .outs; halted = s .halted }
+
+abbrev pub withTable : State → List ℕ → State
+withTable s t =
+    record { at = s .at; pointer = s .pointer; counted = s .counted; reg = s .reg; tape = s .tape; table = t; calls = s .calls; refs = s .refs; channel = s .channel; taken = s .taken; outs = s .outs; halted = s .halted }
+
+abbrev pub withCalls : State → List ℕ → State
+withCalls s cs =
+    record { at = s .at; pointer = s .pointer; counted = s .counted; reg = s .reg; tape = s .tape; table = s .table; calls = cs; refs = s .refs; channel = s .channel; taken = s .taken; outs = s .outs; halted = s .halted }
+
+abbrev pub withRefs : State → List ℕ → State
+withRefs s rs =
+    record { at = s .at; pointer = s .pointer; counted = s .counted; reg = s .reg; tape = s .tape; table = s .table; calls = s .calls; refs = rs; channel = s .channel; taken = s .taken; outs = s .outs; halted = s .halted }
+
+abbrev pub withChannel : State → List ℕ → State
+withChannel s c =
+    record { at = s .at; pointer = s .pointer; counted = s .counted; reg = s .reg; tape = s .tape; table = s .table; calls = s .calls; refs = s .refs; channel = c; taken = s .taken; outs = s .outs; halted = s .halted }
+
+abbrev pub withTaken : State → ℕ → State
+withTaken s n =
+    record { at = s .at; pointer = s .pointer; counted = s .counted; reg = s .reg; tape = s .tape; table = s .table; calls = s .calls; refs = s .refs; channel = s .channel; taken = n; outs = s .outs; halted = s .halted }
+
+abbrev pub withOuts : State → List ℕ → State
+withOuts s os =
+    record { at = s .at; pointer = s .pointer; counted = s .counted; reg = s .reg; tape = s .tape; table = s .table; calls = s .calls; refs = s .refs; channel = s .channel; taken = s .taken; outs = os; halted = s .halted }
+
+abbrev pub halt : State → State
+halt s =
+    record { at = s .at; pointer = s .pointer; counted = s .counted; reg = s .reg; tape = s .tape; table = s .table; calls = s .calls; refs = s .refs; channel = s .channel; taken = s .taken; outs = s .outs; halted = true }
+
+-- one op on
+abbrev pub on : State → State
+on s = goTo s (suc (s .at))
+
+abbrev pub setLane : State → ℕ → State
+setLane s v = withReg s (lib.ListN.set (s .reg) 0 v)

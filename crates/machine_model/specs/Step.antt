@@ -1,0 +1,215 @@
+-- A step, op by op as 01-scope.md has them under 'A step'. The numbers of an op stand in the order in which they are tested, and a refused
+-- step leaves nothing behind: it gives its number and no state. Assumes nothing.
+use Prim.Native.Nat.{ℕ, suc, _+_, _-_, _*_, _/_, _^_}
+use mathlib.Core.Bool.{Bool, true, false, cond, _&&_, _||_}
+use mathlib.Core.List.{List, [], _∷_, _++_, reverse}
+use mathlib.Core.Option.{Option, none, some}
+use lib.Dec.{leb, ltb, eqb}
+use lib.ListN.{length, take, drop, getD}
+use Rattle.lanes.specs.Int.{intAdd}
+use Rattle.lanes.specs.Lane.{cellRule, laneRule, zipTo, mapTo}
+use Rattle.ops.specs.Op.{Op, Control, Plain, needs, isWhile}
+use Rattle.ops.specs.Op.Control.{function, call, ret, while, if, else, end}
+use Rattle.ops.specs.Op.Plain.{comment, store, move, swap, locate, offset, deref, refer, cell, lane, get, put, peek, poke, alloc, free}
+use Rattle.ops.specs.Op.Op.{control, set, load, plain}
+use Rattle.testing_device.specs.Device.{getOf, putOf}
+use Rattle.testing_device.specs.declared.device.Got.{Got}
+use Rattle.testing_device.specs.declared.device.Got.the-variants.{Value, Empty}
+use Rattle.machine_model.specs.State.{State, Given, depth, farthest, longest, lane0, goTo, withPointer, withCounted, withReg, withTape, withTable, withCalls, withRefs, withChannel, withTaken, withOuts, halt, on, setLane}
+use Rattle.machine_model.specs.Scan.{opAt, marks, functions, toEnd, toElse, toOpen, kth}
+
+-- what a step gives: the machine is finished, it is refused with a number, or it goes on in the next state
+pub data Outcome : Type 0 where
+  finished : Outcome
+  refused : ℕ → Outcome
+  next : State → Outcome
+
+-- refuse with the number where the test holds
+unfoldable pub bar : Bool → ℕ → Outcome → Outcome
+bar true n o = refused n
+bar false n o = o
+
+-- the first where the test holds, else the second
+unfoldable pub pick : Bool → Outcome → Outcome → Outcome
+pick true a b = a
+pick false a b = b
+
+-- below 0 as an integer
+abbrev pub minus : ℕ → Bool
+minus v = leb (2 ^ 63) v
+
+-- ---- Function, Call, Return, If, While, Else, End
+
+-- "enter its place in the table (sorted, once)"
+unfoldable pub enter : ℕ → List ℕ → List ℕ
+enter p [] = p ∷ []
+enter p (q ∷ qs) = cond (ltb p q) (p ∷ q ∷ qs) (cond (eqb p q) (q ∷ qs) (q ∷ enter p qs))
+
+-- go past the partner that a search gives, or 20
+abbrev pub jump : State → Option ℕ → Outcome
+jump s none = refused 20
+jump s (some p) = next (goTo s (suc p))
+
+-- the enclosing End, and an If's Else or End, from the op after the position on
+abbrev pub endOf : Given → State → Option ℕ
+endOf g s = toEnd (suc (s .at)) 0 (drop (suc (s .at)) (marks (g .ops)))
+
+abbrev pub elseOf : Given → State → Option ℕ
+elseOf g s = toElse (suc (s .at)) 0 (drop (suc (s .at)) (marks (g .ops)))
+
+-- "Save this place; continue after the mark"
+abbrev pub called : State → ℕ → State
+called s m = withCalls (goTo s (suc m)) (s .calls ++ (s .at ∷ []))
+
+-- "else the k-th mark from the start, counted from 0, entered in the table", or 29
+abbrev pub found : State → Option ℕ → Outcome
+found s none = refused 29
+found s (some m) = next (withTable (called s m) (enter m (s .table)))
+
+-- Return: "after the saved place; none saved, halt with position one on"
+abbrev pub back : State → List ℕ → Outcome
+back s [] = next (halt (on s))
+back s (c ∷ cs) = next (withCalls (goTo s (suc (getD (c ∷ cs) (length cs) 0))) (take (length cs) (c ∷ cs)))
+
+-- End at a lane that is not zero: "its partner a While: the op after that While. Otherwise go on, partner or none"
+abbrev pub again : Given → State → Option ℕ → Outcome
+again g s none = next (on s)
+again g s (some w) = next (cond (isWhile (opAt (g .ops) w)) (goTo s (suc w)) (on s))
+
+unfoldable pub turn : Given → Control → State → Outcome
+unfolding toEnd toElse toOpen kth enter
+-- "enter its place in the table (sorted, once), go past its End (20)"
+turn g function s = jump (withTable s (enter (s .at) (s .table))) (endOf g s)
+-- "21, 28, 32, 29. With k in lane 0: table entry k if the table has more than k, else the k-th mark"
+turn g call s =
+    bar (minus (lane0 s)) 28
+    (bar (leb depth (length (s .calls))) 32
+    (pick (ltb (lane0 s) (length (s .table)))
+    (next (called s (getD (s .table) (lane0 s) 0)))
+    (found s (kth 0 (lane0 s) (functions (g .ops))))))
+turn g ret s = back s (s .calls)
+-- "If at zero: after its Else at depth 1, or after its End. While at zero: after its End. Else: after the enclosing End"
+turn g if s = pick (eqb (lane0 s) 0) (jump s (elseOf g s)) (next (on s))
+turn g while s = pick (eqb (lane0 s) 0) (jump s (endOf g s)) (next (on s))
+turn g else s = jump s (endOf g s)
+-- "21; lane 0 not zero and its partner a While"
+turn g end s = pick (eqb (lane0 s) 0) (next (on s)) (again g s (toOpen 0 (reverse (take (s .at) (marks (g .ops))))))
+
+-- ---- the tape
+
+-- "if pointer + n is not below the counted length, add 100,000 times (floor((pointer + n - length) / 100,000) + 1)"
+abbrev pub cover : ℕ → ℕ → ℕ
+cover p n = cond (ltb p n) n (n + 100_000 * ((p - n) / 100_000 + 1))
+
+-- n cells from p on go beyond a length; "n = 0 touches nothing"
+abbrev pub beyond : ℕ → ℕ → ℕ → Bool
+beyond p n l = ltb 0 n && ltb l (p + n)
+
+-- the n cells from the pointer on
+abbrev pub cells : State → ℕ → List ℕ
+cells s n = take n (drop (s .pointer) (s .tape))
+
+-- the tape with the first n lanes from the pointer on
+abbrev pub stored : State → ℕ → List ℕ
+stored s n = take (s .pointer) (s .tape) ++ take n (s .reg) ++ drop (s .pointer + length (take n (s .reg))) (s .tape)
+
+-- Deref "saves the pointer and takes the cell's value for it": 26, 25
+abbrev pub derefTo : State → ℕ → Outcome
+derefTo s v =
+    bar (minus v) 26
+    (bar (ltb farthest v) 25
+    (next (on (withPointer (withRefs (withCounted s (cover (s .pointer) (s .counted))) (s .refs ++ (s .pointer ∷ []))) v))))
+
+-- "Refer takes back the last saved: 27"
+abbrev pub referTo : State → List ℕ → Outcome
+referTo s [] = refused 27
+referTo s (c ∷ cs) = next (on (withRefs (withPointer s (getD (c ∷ cs) (length cs) 0)) (take (length cs) (c ∷ cs))))
+
+-- "Move: 24, 25", down and up
+abbrev pub moveBy : State → ℕ → Bool → Outcome
+moveBy s m true = bar (ltb (s .pointer) (2 ^ 64 - m)) 24 (next (on (withPointer s (s .pointer - (2 ^ 64 - m)))))
+moveBy s m false = bar (ltb farthest (s .pointer + m)) 25 (next (on (withPointer s (s .pointer + m))))
+
+-- "length under 30,000 grows by 30,000"
+abbrev pub grown : ℕ → ℕ
+grown n = cond (ltb n 30_000) (n + 30_000) n
+
+-- ---- in and out
+
+-- what Get gives, or 35
+abbrev pub gotten : State → Got → Outcome
+gotten s Empty = refused 35
+gotten s (Value v place) = next (on (withTaken (setLane s v) place))
+
+-- outputs, "all or none": 36
+abbrev pub write : Given → State → List ℕ → Outcome
+write g s vs = bar (ltb (g .room) (length (s .outs) + length vs)) 36 (next (on (withOuts s (s .outs ++ vs))))
+
+-- the channel's oldest value, or 33
+abbrev pub peekAt : State → List ℕ → Outcome
+peekAt s [] = refused 33
+peekAt s (v ∷ vs) = next (on (withChannel (setLane s v) vs))
+
+-- ---- the ops that keep the register's length
+
+unfoldable pub act : Given → Plain → State → Outcome
+unfolding cellRule laneRule zipTo mapTo getOf putOf
+-- "Order 21 (Store), 23 (only if n > 0)"
+act g (store n) s =
+    bar (beyond (s .pointer) n (length (s .tape))) 23
+    (next (on (withCounted (withTape s (stored s n)) (cover (s .pointer + n) (s .counted)))))
+-- "32, 23 (pointer not below the lent tape), 26, 25"
+act g deref s =
+    bar (leb depth (length (s .refs))) 32
+    (bar (leb (length (s .tape)) (s .pointer)) 23 (derefTo s (getD (s .tape) (s .pointer) 0)))
+act g refer s = referTo s (s .refs)
+-- "Other cell ops: 21, 22, 23"
+act g (cell k n) s =
+    bar (beyond (s .pointer) n (s .counted)) 22
+    (bar (beyond (s .pointer) n (length (s .tape))) 23
+    (next (on (withReg s (zipTo (cellRule k) n (s .reg) (drop (s .pointer) (s .tape)))))))
+act g (swap n) s =
+    bar (beyond (s .pointer) n (s .counted)) 22
+    (bar (beyond (s .pointer) n (length (s .tape))) 23
+    (next (on (withTape (withReg s (cells s n ++ drop n (s .reg))) (stored s n)))))
+act g (move m) s = moveBy s m (minus m)
+-- "21, 30; length under 30,000 grows by 30,000; answer length - 1, then grow by lane 0"
+act g alloc s =
+    bar (minus (lane0 s) || ltb longest (grown (s .counted) + lane0 s)) 30
+    (next (on (withCounted (setLane s (grown (s .counted) - 1)) (grown (s .counted) + lane0 s))))
+-- "Get, Put, Peek, Poke: 21, then theirs"
+act g (get m) s = gotten s (getOf m (g .input) (s .taken))
+act g (put m) s = write g s (putOf m (lane0 s))
+act g peek s = peekAt s (s .channel)
+act g poke s = bar (leb depth (length (s .channel))) 34 (next (on (withChannel s (s .channel ++ (lane0 s ∷ [])))))
+-- "Where: 21; pointer to lane 0. Lane-only ops: 21"
+act g locate s = next (on (setLane s (s .pointer)))
+act g (lane k n) s = next (on (withReg s (mapTo (laneRule k) n (s .reg))))
+act g (offset v n) s = next (on (withReg s (mapTo (λ a. intAdd a v) n (s .reg))))
+-- "Free, Comment: nothing"
+act g free s = next (on s)
+act g (comment bs) s = next (on s)
+
+-- ---- a step
+
+unfoldable pub exec : Given → Op → State → Outcome
+unfolding turn act
+exec g (control c) s = turn g c s
+-- "Load makes the register n lanes. Order 21 (Store), 23 (only if n > 0)"
+exec g (load n) s =
+    bar (beyond (s .pointer) n (length (s .tape))) 23
+    (next (on (withCounted (withReg s (cells s n)) (cover (s .pointer + n) (s .counted)))))
+-- "Set: the register is its values"
+exec g (set k vs) s = next (on (withReg s vs))
+exec g (plain p) s = act g p s
+
+-- the op at the position
+unfoldable pub op : Given → State → Op
+op g s = opAt (g .ops) (s .at)
+
+-- "Before each step: halted or at the end gives 0"; then 21, which is each op's first test
+unfoldable pub step : Given → State → Outcome
+unfolding exec op
+step g s =
+    pick (s .halted || leb (length (g .ops)) (s .at)) finished
+    (bar (ltb (length (s .reg)) (needs (op g s))) 21 (exec g (op g s) s))
