@@ -1,0 +1,1 @@
+-- Computed cases of the device. Assumes nothing.
