@@ -26,10 +26,14 @@ unfolding decimal
 decimal-more k n h = rw (le-ltb n 10 h) refl
 
 -- a store at place k is the head of what stands from k on
-pub drop-set : (l : List ℕ) (k v : ℕ) → k < length l → drop k (set l k v) ≡ v ∷ drop (suc k) l
+drop-set : (l : List ℕ) (k v : ℕ) → k < length l → drop k (set l k v) ≡ v ∷ drop (suc k) l
 drop-set l k v h =
     drop-cons (set l k v) k 0 (rw (length-set l k v) h)
     ∙ rw (getD-set-same l k v 0 h, drop-set-lt (suc k) l k v (omega arith)) refl
+
+pub store-before : (l : List ℕ) (i v : ℕ) → 0 < i → i ≤ length l → drop (i - 1) (set l (i - 1) v) ≡ v ∷ drop i l
+store-before l zero v p h = absurd (omega arith)
+store-before l (suc k) v p h = let q : suc k - 1 ≡ k = omega arith in rw q (drop-set l k v (omega arith))
 
 -- the digits still to come, before those that stand in the array from place i on
 pub digit-more : (l : List ℕ) (i n : ℕ) → 0 < i → i ≤ length l → 10 ≤ n
@@ -37,11 +41,11 @@ pub digit-more : (l : List ℕ) (i n : ℕ) → 0 < i → i ≤ length l → 10 
 digit-more l zero n p h b = absurd (omega arith)
 digit-more l (suc k) n p h b =
     let q : suc k - 1 ≡ k = omega arith in
-    rw (q, drop-set l k (48 + n % 10) (omega arith), decimal-more k n b) (sym (append-snoc (decimal k (n / 10)) (48 + n % 10) (drop (suc k) l)))
+    rw (store-before l (suc k) (48 + n % 10) p h, q, decimal-more k n b) (sym (append-snoc (decimal k (n / 10)) (48 + n % 10) (drop (suc k) l)))
 
 pub digit-last : (l : List ℕ) (i n : ℕ) → 0 < i → i ≤ length l → n < 10 → drop (i - 1) (set l (i - 1) (48 + n)) ≡ decimal i n ++ drop i l
 digit-last l zero n p h b = absurd (omega arith)
-digit-last l (suc k) n p h b = let q : suc k - 1 ≡ k = omega arith in rw (q, drop-set l k (48 + n) (omega arith), decimal-last k n b) refl
+digit-last l (suc k) n p h b = rw (store-before l (suc k) (48 + n) p h, decimal-last k n b) refl
 
 -- a tenth has one digit fewer
 pub fewer : (k n : ℕ) → n < 10 ^ suc k → n / 10 < 10 ^ k

@@ -25,7 +25,8 @@ pub fn peek(channel: &[u64], first: usize, waiting: usize) -> Peeked
     if waiting == 0 {
         return Peeked::Empty;
     }
-    Peeked::Value(channel[first], (first + 1) % 256, waiting - 1)
+    let next = (first + 1) % 256;
+    Peeked::Value(channel[first], next, waiting - 1)
 }
 
 pub fn poke(value: u64, channel: &mut [u64], first: usize, waiting: usize) -> Poked

@@ -28,9 +28,9 @@ fn is_space(v: u64) -> bool
 fn is_digit(v: u64) -> bool
     ensures { λ r. ⌜ r ≡ isDigit v ⌝ }
 {
-    let b = v % 256;
-    if 48 <= b {
-        return b <= 57;
+    let d = v % 256;
+    if 48 <= d {
+        return d <= 57;
     }
     false
 }

@@ -1,9 +1,8 @@
+use mathlib.Core.Path.{_∙_, refl, sym}
 use native.Mathlib.Omega.{arith}
-use Rattle.testing_device.proofs.Rings.{peek-none, peek-some}
-use mathlib.Core.Path.{_≡_, _∙_, refl, sym, ap}
 use borrow.Author.Tests.{not-true, not-false}
 use Rattle.testing_device.specs.Channel.{peekOf}
-use Rattle.testing_device.proofs.Rings.{ringed}
+use Rattle.testing_device.proofs.Rings.{ringed, peek-none, peek-some}
 use borrow.Author.Needs.{needs}
 use Rattle.testing_device.proofs.channel.peek.Statement.{statement}
 use Rattle.testing_device.proofs.channel.peek.Tie as tie
@@ -24,21 +23,24 @@ returns c = rw (sym (c .before .is-ring .ensures) ∙ not-true _ (c .if1 .taken)
 returns-2 : tie.Need-returns-2
 returns-2 c = sym (peek-none _ _ _ (sym (c .before .before .is-ring .ensures) ∙ not-false _ (c .before .if1 .left)) (c .if2 .taken))
 
--- src/channel.rt:28:19
-mul-t6 : tie.Need-mul-t6
-mul-t6 c = let w = ringed (c .before .before .before .before .args .channel .now) (c .before .before .before .before .args .first) (c .before .before .before .before .args .waiting) (sym (c .before .before .is-ring .ensures) ∙ not-false _ (c .before .if1 .left)) in omega (arith, w .first)
+-- src/channel.rt:28:17
+add-next : tie.Need-add-next
+add-next c = 
+    let a = c .before .before .before .before .args in let w = ringed (a .channel .now) (a .first) (a .waiting) (sym (c .before .before .is-ring .ensures) ∙ not-false _ (c .before .if1 .left)) in omega (arith, w .first)
 
--- src/channel.rt:28:19
-shared-slice-read-t8 : tie.Need-shared-slice-read-t8
-shared-slice-read-t8 c = let w = ringed (c .before .before .before .before .before .args .channel .now) (c .before .before .before .before .before .args .first) (c .before .before .before .before .before .args .waiting) (sym (c .before .before .before .is-ring .ensures) ∙ not-false _ (c .before .before .if1 .left)) in omega (arith, w .first, w .room)
+-- src/channel.rt:29:19
+mul-t7 : tie.Need-mul-t7
+mul-t7 c = 
+    let a = c .before .before .before .before .args in let w = ringed (a .channel .now) (a .first) (a .waiting) (sym (c .before .before .is-ring .ensures) ∙ not-false _ (c .before .if1 .left)) in omega (arith, w .first)
 
--- src/channel.rt:28:36
-add-t9 : tie.Need-add-t9
-add-t9 c = let w = ringed (c .before .before .before .before .before .args .channel .now) (c .before .before .before .before .before .args .first) (c .before .before .before .before .before .args .waiting) (sym (c .before .before .before .is-ring .ensures) ∙ not-false _ (c .before .before .if1 .left)) in omega (arith, w .first)
+-- src/channel.rt:29:19
+shared-slice-read-t9 : tie.Need-shared-slice-read-t9
+shared-slice-read-t9 c = 
+    let a = c .before .before .before .before .before .args in let w = ringed (a .channel .now) (a .first) (a .waiting) (sym (c .before .before .before .is-ring .ensures) ∙ not-false _ (c .before .before .if1 .left)) in omega (arith, w .first, w .room)
 
--- src/channel.rt:28:54
-sub-t11 : tie.Need-sub-t11
-sub-t11 c = search needs
+-- src/channel.rt:29:41
+sub-t10 : tie.Need-sub-t10
+sub-t10 c = search needs
 
 -- src/channel.rt:19:1
 returns-3 : tie.Need-returns-3
@@ -51,8 +53,8 @@ peek-spec =
     is-ring-requires
     returns
     returns-2
-    mul-t6
-    shared-slice-read-t8
-    add-t9
-    sub-t11
+    add-next
+    mul-t7
+    shared-slice-read-t9
+    sub-t10
     returns-3)

@@ -34,7 +34,8 @@ returns-2 c = rw ((sym (c .before .before .is-ring .ensures) ∙ not-false _ (c 
 
 -- src/channel.rt:40:15
 add-at : tie.Need-add-at
-add-at c = let w = ringed (c .before .before .before .before .before .args .channel .now) (c .before .before .before .before .before .args .first) (c .before .before .before .before .before .args .waiting) (sym (c .before .before .is-ring .ensures) ∙ not-false _ (c .before .if1 .left)) in omega (arith, w .first)
+add-at c = 
+    let a = c .before .before .before .before .before .args in let w = ringed (a .channel .now) (a .first) (a .waiting) (sym (c .before .before .is-ring .ensures) ∙ not-false _ (c .before .if1 .left)) in omega (arith, w .first)
 
 -- src/channel.rt:41:5
 mul-channel : tie.Need-mul-channel
@@ -42,7 +43,8 @@ mul-channel c = search needs
 
 -- src/channel.rt:41:5
 slice-write-channel : tie.Need-slice-write-channel
-slice-write-channel c = let w = ringed (c .before .before .before .before .before .args .channel .now) (c .before .before .before .before .before .args .first) (c .before .before .before .before .before .args .waiting) (sym (c .before .before .is-ring .ensures) ∙ not-false _ (c .before .if1 .left)) in omega (arith, w .first, w .room)
+slice-write-channel c = 
+    let a = c .before .before .before .before .before .args in let w = ringed (a .channel .now) (a .first) (a .waiting) (sym (c .before .before .is-ring .ensures) ∙ not-false _ (c .before .if1 .left)) in omega (arith, w .first, w .room)
 
 -- src/channel.rt:42:17
 add-t10 : tie.Need-add-t10
