@@ -1,7 +1,7 @@
 -- Computed cases of the device: case 8 of the table, the least integer printed, and a ring that wraps. Assumes nothing.
 use mathlib.Core.Path.{_≡_, refl}
 use mathlib.Core.List.{List, [], _∷_}
-use Prim.Native.Nat.{ℕ, _^_}
+use Prim.Native.Nat.{_^_}
 use lib.ListN.{replicate}
 use lib.ListN
 use Rattle.ops.specs.declared.op.Mode.the-variants.{Char, Int, Other}

@@ -1,8 +1,8 @@
 -- What Get reads: spaces passed, digits taken, and bounds of the value and the place. Assumes nothing.
 use mathlib.Core.Path.{_≡_, _∙_, refl, ap, subst}
-use mathlib.Core.Bool.{Bool, true, false, cond, _&&_}
-use mathlib.Core.List.{List, [], _∷_, _++_}
-use Prim.Native.Nat.{ℕ, zero, suc, _+_, _-_, _*_, _%_, _^_, _≤_, _<_}
+use mathlib.Core.Bool.{Bool, true, false}
+use mathlib.Core.List.{List, [], _∷_}
+use Prim.Native.Nat.{ℕ, suc, _+_, _-_, _*_, _%_, _^_, _≤_, _<_}
 use native.Mathlib.Omega.{arith}
 use native.Mathlib.Nat.{add-zero}
 use native.Mathlib.Numerals.{add-one}
@@ -74,8 +74,8 @@ tenfold a d {t} {f} {e} {n} et ef ee en =
     let qn : n ≡ (four + four + two) % 2 ^ 64 = en ∙ rw (qe, et) (wrapped (four + four) two) in
     rw qn (wrapped-left (four + four + two) d ∙ ap (λ (k : ℕ). (k + d) % 2 ^ 64) (ten a))
   where
-  ten : (a : ℕ) → a + a + (a + a) + (a + a + (a + a)) + (a + a) ≡ a * 10
-  ten a = omega arith
+    ten : (a : ℕ) → a + a + (a + a) + (a + a + (a + a)) + (a + a) ≡ a * 10
+    ten a = omega arith
 
 -- ---- bounds
 

@@ -1,12 +1,10 @@
 -- What Put writes: decimal characters digit by digit, how many they are, and where they stand. Assumes nothing.
-use mathlib.Core.Path.{_≡_, _∙_, refl, ap, ap₂, sym, subst}
-use mathlib.Core.Bool.{Bool, true, false, cond}
+use mathlib.Core.Path.{_≡_, _∙_, refl, sym, subst}
 use mathlib.Core.List.{List, [], _∷_, _++_}
-use Prim.Native.Nat.{ℕ, zero, suc, _+_, _-_, _*_, _/_, _%_, _^_, _≤_, _<_}
+use Prim.Native.Nat.{ℕ, zero, suc, _+_, _-_, _/_, _%_, _^_, _≤_, _<_}
 use native.Mathlib.Omega.{arith}
-use native.Mathlib.Numerals.{add-one}
-use lib.Dec.{leb, ltb}
-use lib.ListN.{length, getD, set, take, drop, length-append, length-set}
+use lib.Dec.{ltb}
+use lib.ListN.{length, set, drop, length-append, length-set}
 use lib.Seq.{drop-cons, drop-set-lt, getD-set-same, append-snoc, paste, take-length}
 use borrow.Author.Tests.{lt-ltb, le-ltb, ltb-true, ltb-false}
 use Rattle.ops.specs.declared.op.Mode.{Mode}

@@ -4,7 +4,7 @@ use mathlib.Core.Bool.{Bool, true, false, _&&_}
 use mathlib.Core.List.{List, [], _∷_, _++_}
 use Prim.Native.Nat.{ℕ, zero, suc, _+_, _^_, _<_}
 use native.Mathlib.Omega.{arith}
-use lib.ListN.{length, getD, take, drop}
+use lib.ListN.{getD, drop}
 use lib.Seq.{getD-drop}
 
 -- every value of the list is below 2 ^ 64; beyond its end is 0
@@ -17,9 +17,9 @@ no-words = record { at = λ i. omega arith }
 pub words-cons : (v : ℕ) (vs : List ℕ) → v < 2 ^ 64 → Words vs → Words (v ∷ vs)
 words-cons v vs h w = record { at = go }
   where
-  go : (i : ℕ) → getD (v ∷ vs) i 0 < 2 ^ 64
-  go zero = h
-  go (suc i) = w .at i
+    go : (i : ℕ) → getD (v ∷ vs) i 0 < 2 ^ 64
+    go zero = h
+    go (suc i) = w .at i
 
 pub words-tail : (v : ℕ) (vs : List ℕ) → Words (v ∷ vs) → Words vs
 words-tail v vs w = record { at = λ i. w .at (suc i) }
