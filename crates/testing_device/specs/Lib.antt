@@ -1,1 +1,3 @@
 pub mod Device
+pub mod Room
+pub mod Channel
