@@ -1,0 +1,5 @@
+pub mod Ints
+pub mod Bits
+pub mod Floats
+pub mod Rem
+pub mod Loops

@@ -1,0 +1,133 @@
+// A lane as a float of 64 bits, by its pattern: one function for each arm of the Rust's `step`, in the order of the arms. Every NaN pattern is
+// read as the one NaN, and a NaN that an op gives is stored as one pattern. Each of + - * / % leaves at the first NaN operand, which no sum needs.
+ghost use mathlib.Core.Path.{_≡_};
+ghost use lib.Ieee.{binary64, nanBits};
+ghost use Rattle.lanes.specs.Float.{loadedOf, storedOf, floatAdd, floatSub, floatMul, floatDiv, floatRem, floatNeg, floatGez, toInt, toFloat};
+use crate::int::HALF;
+use crate::int::integer;
+use crate::int::pattern;
+
+// The pattern that every NaN is stored as.
+pub const NAN: u64 = 0x7FF8_0000_0000_0000;
+
+// Whether a pattern is a NaN's: below the sign it is above infinity's.
+fn nan_bits(a: u64) -> bool
+    ensures { λ r. ⌜ r ≡ nanBits binary64 a ⌝ }
+{
+    a % HALF > 0x7FF0_0000_0000_0000
+}
+
+// The float of a pattern.
+pub fn as_float(a: u64) -> f64
+    ensures { λ r. ⌜ r ≡ loadedOf a ⌝ }
+{
+    if nan_bits(a) {
+        0.0 / 0.0
+    } else {
+        f64::from_bits(a)
+    }
+}
+
+// The pattern of a float.
+pub fn as_int(x: f64) -> u64
+    ensures { λ r. ⌜ r ≡ storedOf x ⌝ }
+{
+    if x != x { NAN } else { f64::to_bits(x) }
+}
+
+// Toward zero, and to the nearest end of the range where it is out of it.
+pub fn to_int(a: u64) -> u64
+    ensures { λ r. ⌜ r ≡ toInt a ⌝ }
+{
+    let x = as_float(a);
+    if x >= -9223372036854775808.0 {
+        if x < 9223372036854775808.0 {
+            pattern(std::num::truncating_f64_to_i64(x))
+        } else {
+            0x7FFF_FFFF_FFFF_FFFF
+        }
+    } else {
+        if x < -9223372036854775808.0 { HALF } else { 0 }
+    }
+}
+
+// To the nearest float.
+pub fn to_float(a: u64) -> u64
+    ensures { λ r. ⌜ r ≡ toFloat a ⌝ }
+{
+    as_int(std::num::nearest_i64_to_f64(integer(a)))
+}
+
+pub fn float_add(a: u64, b: u64) -> u64
+    ensures { λ r. ⌜ r ≡ floatAdd a b ⌝ }
+{
+    if nan_bits(a) {
+        return NAN;
+    }
+    if nan_bits(b) {
+        return NAN;
+    }
+    as_int(f64::from_bits(a) + f64::from_bits(b))
+}
+
+pub fn float_sub(a: u64, b: u64) -> u64
+    ensures { λ r. ⌜ r ≡ floatSub a b ⌝ }
+{
+    if nan_bits(a) {
+        return NAN;
+    }
+    if nan_bits(b) {
+        return NAN;
+    }
+    as_int(f64::from_bits(a) - f64::from_bits(b))
+}
+
+pub fn float_mul(a: u64, b: u64) -> u64
+    ensures { λ r. ⌜ r ≡ floatMul a b ⌝ }
+{
+    if nan_bits(a) {
+        return NAN;
+    }
+    if nan_bits(b) {
+        return NAN;
+    }
+    as_int(f64::from_bits(a) * f64::from_bits(b))
+}
+
+pub fn float_div(a: u64, b: u64) -> u64
+    ensures { λ r. ⌜ r ≡ floatDiv a b ⌝ }
+{
+    if nan_bits(a) {
+        return NAN;
+    }
+    if nan_bits(b) {
+        return NAN;
+    }
+    as_int(f64::from_bits(a) / f64::from_bits(b))
+}
+
+pub fn float_rem(a: u64, b: u64) -> u64
+    ensures { λ r. ⌜ r ≡ floatRem a b ⌝ }
+{
+    if nan_bits(a) {
+        return NAN;
+    }
+    if nan_bits(b) {
+        return NAN;
+    }
+    as_int(f64::from_bits(a) % f64::from_bits(b))
+}
+
+// The sign's bit flipped, of a NaN too.
+pub fn float_neg(a: u64) -> u64
+    ensures { λ r. ⌜ r ≡ floatNeg a ⌝ }
+{
+    std::num::wrapping_add_u64(a, HALF)
+}
+
+// 1 where the float is at least 0, as -0.0 is, and 0 where it is not or is a NaN.
+pub fn float_gez(a: u64) -> u64
+    ensures { λ r. ⌜ r ≡ floatGez a ⌝ }
+{
+    if as_float(a) >= 0.0 { 1 } else { 0 }
+}
