@@ -283,6 +283,8 @@ def on_floats(f):
 # ---- the ops, by kind: what each gives of a lane and the cell beside it, or of a lane alone
 
 INT_CELLS = {
+    15: lambda a, b: wrap(signed(a) + signed(b)),
+    16: lambda a, b: wrap(signed(a) + signed(b)),
     17: lambda a, b: wrap(~(a & b)),
     18: lambda a, b: a & b,
     19: lambda a, b: a | b,
@@ -330,6 +332,11 @@ def table(name, comment, rows):
     return lines + ["];"]
 
 
+def kinds(name, comment, ops):
+    numbers = ", ".join(str(kind) for kind in sorted(ops))
+    return ["", "// " + comment, "pub const %s: [u64; %d] = [%s];" % (name, len(ops), numbers)]
+
+
 def cell_lines(ops, patterns):
     """A line for each op and lane: the kind, the lane, and the results by each cell."""
     for kind, op in sorted(ops.items()):
@@ -344,11 +351,15 @@ def lane_lines(ops, patterns):
 
 
 def main():
-    source = ["// The patterns that the lane ops are tried on. Written by tools/lane_vectors.py."]
-    source += table("INTS", "Lanes and cells of the integer ops.", INTS)
-    source += table("FLOATS", "Lanes and cells of the float ops.", FLOATS)
-    source += table("LONE_INTS", "Lanes of the integer ops that work a lane alone.", INTS + LONE_INTS)
-    source += table("LONE_FLOATS", "Lanes of the float ops that work a lane alone.", FLOATS + LONE_FLOATS)
+    source = ["// The kinds of the lane ops, and the patterns that they are tried on. Written by tools/lane_vectors.py."]
+    source += kinds("INT_CELLS", "The integer ops of a lane and the cell beside it.", INT_CELLS)
+    source += kinds("FLOAT_CELLS", "The float ops of a lane and the cell beside it.", FLOAT_CELLS)
+    source += kinds("INT_LANES", "The ops of an integer lane alone.", INT_LANES)
+    source += kinds("FLOAT_LANES", "The ops of a float lane alone.", FLOAT_LANES)
+    source += table("INTS", "Lanes and cells of INT_CELLS.", INTS)
+    source += table("FLOATS", "Lanes and cells of FLOAT_CELLS.", FLOATS)
+    source += table("LONE_INTS", "Lanes of INT_LANES.", INTS + LONE_INTS)
+    source += table("LONE_FLOATS", "Lanes of FLOAT_LANES.", FLOATS + LONE_FLOATS)
     lines = list(cell_lines(INT_CELLS, INTS)) + list(cell_lines(FLOAT_CELLS, FLOATS))
     lines += list(lane_lines(INT_LANES, INTS + LONE_INTS)) + list(lane_lines(FLOAT_LANES, FLOATS + LONE_FLOATS))
     os.makedirs(os.path.join(HOME, "src"), exist_ok=True)

@@ -1,6 +1,35 @@
-// The patterns that the lane ops are tried on. Written by tools/lane_vectors.py.
+// The kinds of the lane ops, and the patterns that they are tried on. Written by tools/lane_vectors.py.
 
-// Lanes and cells of the integer ops.
+// The integer ops of a lane and the cell beside it.
+pub const INT_CELLS: [u64; 16] = [
+    15,
+    16,
+    17,
+    18,
+    19,
+    20,
+    22,
+    23,
+    24,
+    25,
+    26,
+    28,
+    29,
+    30,
+    31,
+    32,
+];
+
+// The float ops of a lane and the cell beside it.
+pub const FLOAT_CELLS: [u64; 5] = [261, 262, 263, 264, 265];
+
+// The ops of an integer lane alone.
+pub const INT_LANES: [u64; 7] = [21, 27, 33, 34, 35, 37, 260];
+
+// The ops of a float lane alone.
+pub const FLOAT_LANES: [u64; 3] = [259, 266, 267];
+
+// Lanes and cells of INT_CELLS.
 pub const INTS: [u64; 14] = [
     0x0000000000000000, // 0
     0x0000000000000001, // 1
@@ -18,7 +47,7 @@ pub const INTS: [u64; 14] = [
     0x8000000000000000, // the least
 ];
 
-// Lanes and cells of the float ops.
+// Lanes and cells of FLOAT_CELLS.
 pub const FLOATS: [u64; 24] = [
     0x0000000000000000, // 0
     0x8000000000000000, // -0
@@ -46,7 +75,7 @@ pub const FLOATS: [u64; 24] = [
     0x7FF0000000000001, // a signalling NaN
 ];
 
-// Lanes of the integer ops that work a lane alone.
+// Lanes of INT_LANES.
 pub const LONE_INTS: [u64; 23] = [
     0x0000000000000000, // 0
     0x0000000000000001, // 1
@@ -73,7 +102,7 @@ pub const LONE_INTS: [u64; 23] = [
     0xFFFFFFFF00000000, // -2^32
 ];
 
-// Lanes of the float ops that work a lane alone.
+// Lanes of FLOAT_LANES.
 pub const LONE_FLOATS: [u64; 38] = [
     0x0000000000000000, // 0
     0x8000000000000000, // -0
