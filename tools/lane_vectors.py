@@ -337,17 +337,11 @@ def kinds(name, comment, ops):
     return ["", "// " + comment, "pub const %s: [u64; %d] = [%s];" % (name, len(ops), numbers)]
 
 
-def cell_lines(ops, patterns):
-    """A line for each op and lane: the kind, the lane, and the results by each cell."""
+def lines(ops, lanes, cells):
+    """A line for each op and lane: the kind, the lane, and the result by each cell."""
     for kind, op in sorted(ops.items()):
-        for a, _ in patterns:
-            yield "%d %016x:" % (kind, a) + "".join(" %016x" % op(a, b) for b, _ in patterns)
-
-
-def lane_lines(ops, patterns):
-    """A line for each op: the kind, and its result of each lane."""
-    for kind, op in sorted(ops.items()):
-        yield "%d:" % kind + "".join(" %016x" % op(a) for a, _ in patterns)
+        for a, _ in lanes:
+            yield "%d %016x:" % (kind, a) + "".join(" %016x" % op(a, *b) for b in cells)
 
 
 def main():
@@ -360,14 +354,17 @@ def main():
     source += table("FLOATS", "Lanes and cells of FLOAT_CELLS.", FLOATS)
     source += table("LONE_INTS", "Lanes of INT_LANES.", INTS + LONE_INTS)
     source += table("LONE_FLOATS", "Lanes of FLOAT_LANES.", FLOATS + LONE_FLOATS)
-    lines = list(cell_lines(INT_CELLS, INTS)) + list(cell_lines(FLOAT_CELLS, FLOATS))
-    lines += list(lane_lines(INT_LANES, INTS + LONE_INTS)) + list(lane_lines(FLOAT_LANES, FLOATS + LONE_FLOATS))
+    output = []
+    for ops, lanes in ((INT_CELLS, INTS), (FLOAT_CELLS, FLOATS)):
+        output += lines(ops, lanes, [(b,) for b, _ in lanes])
+    for ops, lanes in ((INT_LANES, INTS + LONE_INTS), (FLOAT_LANES, FLOATS + LONE_FLOATS)):
+        output += lines(ops, lanes, [()])
     os.makedirs(os.path.join(HOME, "src"), exist_ok=True)
-    for name, text in (("src/vectors.rt", source), ("stdout", lines)):
+    for name, text in (("src/vectors.rt", source), ("stdout", output)):
         with open(os.path.join(HOME, name), "w") as file:
             file.write("\n".join(text) + "\n")
-    results = sum(line.split(":")[1].count(" ") for line in lines)
-    print(len(lines), "lines,", results, "results")
+    results = sum(line.split(":")[1].count(" ") for line in output)
+    print(len(output), "lines,", results, "results")
 
 
 if __name__ == "__main__":
