@@ -1,24 +1,72 @@
--- What the proofs of the bit lanes share: a digit-by-digit operation of the machine is `bitwise` of its rule on digits. Proved once, for any operation
--- that has a step on digits. Assumes nothing.
+-- What the proofs of the bit lanes share: a machine operation on bits is `bitwise` of its rule on one digit, proved once for any such operation,
+-- and `bitwise` of the other digits is the complement. Assumes nothing.
 use mathlib.Core.Path.{_≡_, refl, sym, _∙_, ap, ap₂}
 use Prim.Native.Nat.{ℕ, zero, suc, _+_, _-_, _*_, _/_, _%_, _^_, _<_, _≤_, min, max}
 use native.Mathlib.Omega.{arith}
-use native.Mathlib.Nat.{mul-comm, add-comm}
+use native.Mathlib.Nat.{mod-lt, pow-suc, zero-lt-suc}
 use lib.Bits as machine
 use lib.Bits.{differ, and-step, or-step, xor-step}
-use Rattle.lanes.specs.Int.{bitwise, bothDigits, notBothDigits, someDigit, oneDigit, bitAnd, bitNand, bitOr, bitXor}
+use Rattle.lanes.specs.Int.{bitwise, bothDigits, notBothDigits, someDigit, oneDigit}
 
--- an operation whose digit at each place is f of the operands' digits is `bitwise f`, on k digits
-pub digits-are : (g f : ℕ → ℕ → ℕ) (k : ℕ)
-    → ((j a b : ℕ) → a < 2 ^ suc j → b < 2 ^ suc j → g a b ≡ f (a % 2) (b % 2) + 2 * g (a / 2) (b / 2))
-    → g 0 0 ≡ 0
-    → (a b : ℕ) → a < 2 ^ k → b < 2 ^ k → g a b ≡ bitwise f k a b
+-- a rule on digits, by its four cases
+digit-rule : (g f : ℕ → ℕ → ℕ) → g 0 0 ≡ f 0 0 → g 0 1 ≡ f 0 1 → g 1 0 ≡ f 1 0 → g 1 1 ≡ f 1 1 → (x y : ℕ) → x < 2 → y < 2 → g x y ≡ f x y
+digit-rule g f p q r s zero zero h k = p
+digit-rule g f p q r s zero (suc zero) h k = q
+digit-rule g f p q r s (suc zero) zero h k = r
+digit-rule g f p q r s (suc zero) (suc zero) h k = s
+digit-rule g f p q r s (suc (suc x)) y h k = absurd (too-many x h)
+  where
+    too-many : (n : ℕ) → suc (suc n) < 2 → ⊥
+    too-many n l = omega arith
+digit-rule g f p q r s zero (suc (suc y)) h k = absurd (too-many y k)
+  where
+    too-many : (n : ℕ) → suc (suc n) < 2 → ⊥
+    too-many n l = omega arith
+digit-rule g f p q r s (suc zero) (suc (suc y)) h k = absurd (too-many y k)
+  where
+    too-many : (n : ℕ) → suc (suc n) < 2 → ⊥
+    too-many n l = omega arith
+
+half : (k : ℕ) {n : ℕ} → n < 2 ^ suc k → n / 2 < 2 ^ k
+half k {n} h = omega (arith, h, pow-suc 2 k)
+
+digit : (n : ℕ) → n % 2 < 2
+digit n = omega arith
+
+-- an operation that works digit by digit, by a rule d that is f on digits, is `bitwise f`
+pub digits-are : (g d f : ℕ → ℕ → ℕ) → ((a b : ℕ) → g a b ≡ g (a / 2) (b / 2) * 2 + d (a % 2) (b % 2)) → ((x y : ℕ) → x < 2 → y < 2 → d x y ≡ f x y)
+    → g 0 0 ≡ 0 → (k a b : ℕ) → a < 2 ^ k → b < 2 ^ k → g a b ≡ bitwise f k a b
 unfolding bitwise
-digits-are g f zero step none a b h k = ap₂ g (zero-of a h) (zero-of b k) ∙ none
+digits-are g d f step rule none zero a b h k = ap₂ g (lone a h) (lone b k) ∙ none
   where
-    zero-of : (n : ℕ) → n < 1 → n ≡ 0
-    zero-of n h = omega arith
-digits-are g f (suc j) step none a b h k = step j a b h k ∙ ap (λ (n : ℕ). f (a % 2) (b % 2) + 2 * n) (digits-are g f j step none (a / 2) (b / 2) (half a h) (half b k))
+    lone : (n : ℕ) → n < 1 → n ≡ 0
+    lone n l = omega arith
+digits-are g d f step rule none (suc j) a b h k =
+    step a b ∙ ap₂ (λ (m n : ℕ). m * 2 + n) (digits-are g d f step rule none j (a / 2) (b / 2) (half j h) (half j k)) (rule (a % 2) (b % 2) (digit a) (digit b)) ∙ omega arith
+
+pub and-is : (a b : ℕ) → a < 2 ^ 64 → b < 2 ^ 64 → machine.bitAnd a b ≡ bitwise bothDigits 64 a b
+and-is = digits-are machine.bitAnd min bothDigits and-step (digit-rule min bothDigits refl refl refl refl) refl 64
+
+pub or-is : (a b : ℕ) → a < 2 ^ 64 → b < 2 ^ 64 → machine.bitOr a b ≡ bitwise someDigit 64 a b
+or-is = digits-are machine.bitOr max someDigit or-step (digit-rule max someDigit refl refl refl refl) refl 64
+
+pub xor-is : (a b : ℕ) → a < 2 ^ 64 → b < 2 ^ 64 → machine.bitXor a b ≡ bitwise oneDigit 64 a b
+xor-is = digits-are machine.bitXor differ oneDigit xor-step (digit-rule differ oneDigit refl refl refl refl) refl 64
+
+-- the digits of f and of 1 - f together are all ones
+pub complement : (f : ℕ → ℕ → ℕ) → ((x y : ℕ) → x < 2 → y < 2 → f x y < 2) → (k a b : ℕ) → suc (bitwise f k a b + bitwise (λ x y. 1 - f x y) k a b) ≡ 2 ^ k
+unfolding bitwise
+complement f rule zero a b = refl
+complement f rule (suc k) a b = omega (arith, complement f rule k (a / 2) (b / 2), rule (a % 2) (b % 2) (digit a) (digit b), pow-suc 2 k)
+
+pub nand-is : (a b : ℕ) → a < 2 ^ 64 → b < 2 ^ 64 → 2 ^ 64 - 1 - machine.bitAnd a b ≡ bitwise notBothDigits 64 a b
+nand-is a b h k = rw (and-is a b h k) (omega (arith, complement bothDigits (both-digit) 64 a b))
   where
-    half : (n : ℕ) → n < 2 ^ suc j → n / 2 < 2 ^ j
-    half n h = omega (arith, h)
+    both-digit : (x y : ℕ) → x < 2 → y < 2 → x * y < 2
+    both-digit zero y l m = omega arith
+    both-digit (suc zero) y l m = omega arith
+    both-digit (suc (suc x)) y l m = omega arith
+
+-- the result has k digits
+pub bitwise-below : (f : ℕ → ℕ → ℕ) → ((x y : ℕ) → x < 2 → y < 2 → f x y < 2) → (k a b : ℕ) → bitwise f k a b < 2 ^ k
+bitwise-below f rule k a b = omega (arith, complement f rule k a b)

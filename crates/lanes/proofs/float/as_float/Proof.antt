@@ -1,10 +1,8 @@
 -- `lanes::float::as_float` meets its contract. Assumes nothing.
 use borrow.Author.Needs.{needs}
-use mathlib.Core.Path.{sym, _∙_, subst}
-use mathlib.Core.Bool.{Bool, not}
-use lib.Dec.{T}
+use mathlib.Core.Path.{sym, _∙_}
 use lib.Ieee.{div, ofBits}
-use Rattle.lanes.proofs.Floats.{nan-loaded}
+use Rattle.lanes.proofs.Floats.{nan-loaded, no-nan}
 use Rattle.lanes.proofs.float.as_float.Statement.{statement}
 use Rattle.lanes.proofs.float.as_float.Tie as tie
 
@@ -17,6 +15,6 @@ as-float-spec =
     tie.close
     (tie.spec
     (λ c κs. search needs)
-    (λ c. subst (λ (b : Bool). T (not b)) (sym (c .if1 .left) ∙ c .before .nan-bits .ensures) tt)
+    (λ c. no-nan _ (c .before .nan-bits .ensures) (c .if1 .left))
     returns
     (λ c. search needs))
