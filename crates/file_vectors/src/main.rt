@@ -41,8 +41,11 @@ fn again(file: &mut [u8], at: usize, back: usize, n: usize) -> usize
     i
 }
 
-fn show(file: &[u8]) {
-    let r = ops::reader::read_patch(file);
+// Prints the answer of the file of the first n bytes.
+fn show(file: &[u8], n: usize)
+    requires { ⌜ n ≤ length (now file) ⌝ }
+{
+    let r = ops::reader::read_patch(&file[..n]);
     io::print_decimal(1, r.number as u64);
     io::write_all(1, b" ");
     io::print_decimal(1, r.place as u64);
@@ -62,7 +65,7 @@ fn replay(file: &mut [u8]) -> bool
     let start = take(file, 0, size(head[0], head[1]));
     let full = again(file, start, size(head[2], head[3]), size(head[4], head[5]));
     let end = take(file, full, size(head[6], head[7]));
-    show(&file[..end]);
+    show(file, end);
     true
 }
 

@@ -1,24 +1,7 @@
 // The kinds of the lane ops, and the patterns that they are tried on. Written by tools/lane_vectors.py.
 
 // The integer ops of a lane and the cell beside it.
-pub const INT_CELLS: [u64; 16] = [
-    15,
-    16,
-    17,
-    18,
-    19,
-    20,
-    22,
-    23,
-    24,
-    25,
-    26,
-    28,
-    29,
-    30,
-    31,
-    32,
-];
+pub const INT_CELLS: [u64; 16] = [15, 16, 17, 18, 19, 20, 22, 23, 24, 25, 26, 28, 29, 30, 31, 32];
 
 // The float ops of a lane and the cell beside it.
 pub const FLOAT_CELLS: [u64; 5] = [261, 262, 263, 264, 265];
