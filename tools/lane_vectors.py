@@ -282,6 +282,14 @@ def on_floats(f):
 
 # ---- the ops, by kind: what each gives of a lane and the cell beside it, or of a lane alone
 
+NAMES = {
+    15: "index", 16: "offset", 17: "bitwise nand", 18: "bitwise and", 19: "bitwise or", 20: "bitwise xor", 21: "bitwise not",
+    22: "left shift", 23: "logical right shift", 24: "arithmetic right shift", 25: "and", 26: "or", 27: "not",
+    28: "add", 29: "sub", 30: "mul", 31: "div", 32: "rem", 33: "neg", 34: "inc", 35: "dec", 37: "gez",
+    259: "to int", 260: "to float", 261: "float add", 262: "float sub", 263: "float mul", 264: "float div",
+    265: "float rem", 266: "float neg", 267: "float gez",
+}
+
 INT_CELLS = {
     15: lambda a, b: wrap(signed(a) + signed(b)),
     16: lambda a, b: wrap(signed(a) + signed(b)),
@@ -333,8 +341,9 @@ def table(name, comment, rows):
 
 
 def kinds(name, comment, ops):
-    numbers = ", ".join(str(kind) for kind in sorted(ops))
-    return ["", "// " + comment, "pub const %s: [u64; %d] = [%s];" % (name, len(ops), numbers)]
+    lines = ["", "// " + comment, "pub const %s: [u64; %d] = [" % (name, len(ops))]
+    lines += ["    %d, // %s" % (kind, NAMES[kind]) for kind in sorted(ops)]
+    return lines + ["];"]
 
 
 def lines(ops, lanes, cells):

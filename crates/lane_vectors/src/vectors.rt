@@ -1,16 +1,51 @@
 // The kinds of the lane ops, and the patterns that they are tried on. Written by tools/lane_vectors.py.
 
 // The integer ops of a lane and the cell beside it.
-pub const INT_CELLS: [u64; 16] = [15, 16, 17, 18, 19, 20, 22, 23, 24, 25, 26, 28, 29, 30, 31, 32];
+pub const INT_CELLS: [u64; 16] = [
+    15, // index
+    16, // offset
+    17, // bitwise nand
+    18, // bitwise and
+    19, // bitwise or
+    20, // bitwise xor
+    22, // left shift
+    23, // logical right shift
+    24, // arithmetic right shift
+    25, // and
+    26, // or
+    28, // add
+    29, // sub
+    30, // mul
+    31, // div
+    32, // rem
+];
 
 // The float ops of a lane and the cell beside it.
-pub const FLOAT_CELLS: [u64; 5] = [261, 262, 263, 264, 265];
+pub const FLOAT_CELLS: [u64; 5] = [
+    261, // float add
+    262, // float sub
+    263, // float mul
+    264, // float div
+    265, // float rem
+];
 
 // The ops of an integer lane alone.
-pub const INT_LANES: [u64; 7] = [21, 27, 33, 34, 35, 37, 260];
+pub const INT_LANES: [u64; 7] = [
+    21, // bitwise not
+    27, // not
+    33, // neg
+    34, // inc
+    35, // dec
+    37, // gez
+    260, // to float
+];
 
 // The ops of a float lane alone.
-pub const FLOAT_LANES: [u64; 3] = [259, 266, 267];
+pub const FLOAT_LANES: [u64; 3] = [
+    259, // to int
+    266, // float neg
+    267, // float gez
+];
 
 // Lanes and cells of INT_CELLS.
 pub const INTS: [u64; 14] = [
