@@ -4,28 +4,42 @@ use mathlib.Core.Path.{_≡_, refl, sym, _∙_, ap, ap₂}
 use Prim.Native.Nat.{ℕ, zero, suc, _+_, _-_, _*_, _/_, _%_, _^_, _<_, _≤_, min, max}
 use native.Mathlib.Omega.{arith}
 use native.Mathlib.Nat.{mod-lt, pow-suc, zero-lt-suc}
+use mathlib.Core.Bool.{_&&_}
+use lib.Dec.{T, ltb, ltb→lt}
+use lib.Ieee.Fits.{and-l, and-r}
 use lib.Bits as machine
 use lib.Bits.{differ, and-step, or-step, xor-step}
 use Rattle.lanes.specs.Int.{bitwise, bothDigits, notBothDigits, someDigit, oneDigit}
 
--- a rule on digits, by its four cases
+no-digit : (n : ℕ) → suc (suc n) < 2 → ⊥
+no-digit n h = omega arith
+
+-- a fact of two digits, by its four cases
+on-digits : (P : ℕ → ℕ → Type 0) → P 0 0 → P 0 1 → P 1 0 → P 1 1 → (x y : ℕ) → x < 2 → y < 2 → P x y
+on-digits P p q r s zero zero h k = p
+on-digits P p q r s zero (suc zero) h k = q
+on-digits P p q r s (suc zero) zero h k = r
+on-digits P p q r s (suc zero) (suc zero) h k = s
+on-digits P p q r s (suc (suc x)) y h k = absurd (no-digit x h)
+on-digits P p q r s zero (suc (suc y)) h k = absurd (no-digit y k)
+on-digits P p q r s (suc zero) (suc (suc y)) h k = absurd (no-digit y k)
+
+-- two rules that agree on digits
 digit-rule : (g f : ℕ → ℕ → ℕ) → g 0 0 ≡ f 0 0 → g 0 1 ≡ f 0 1 → g 1 0 ≡ f 1 0 → g 1 1 ≡ f 1 1 → (x y : ℕ) → x < 2 → y < 2 → g x y ≡ f x y
-digit-rule g f p q r s zero zero h k = p
-digit-rule g f p q r s zero (suc zero) h k = q
-digit-rule g f p q r s (suc zero) zero h k = r
-digit-rule g f p q r s (suc zero) (suc zero) h k = s
-digit-rule g f p q r s (suc (suc x)) y h k = absurd (too-many x h)
-  where
-    too-many : (n : ℕ) → suc (suc n) < 2 → ⊥
-    too-many n l = omega arith
-digit-rule g f p q r s zero (suc (suc y)) h k = absurd (too-many y k)
-  where
-    too-many : (n : ℕ) → suc (suc n) < 2 → ⊥
-    too-many n l = omega arith
-digit-rule g f p q r s (suc zero) (suc (suc y)) h k = absurd (too-many y k)
-  where
-    too-many : (n : ℕ) → suc (suc n) < 2 → ⊥
-    too-many n l = omega arith
+digit-rule g f = on-digits (λ x y. g x y ≡ f x y)
+
+-- a rule that gives digits, by a computed test
+pub digit-below : (f : ℕ → ℕ → ℕ) → T (ltb (f 0 0) 2 && ltb (f 0 1) 2 && ltb (f 1 0) 2 && ltb (f 1 1) 2) → (x y : ℕ) → x < 2 → y < 2 → f x y < 2
+digit-below f t =
+    let A = ltb (f 0 0) 2 in
+    let B = ltb (f 0 1) 2 in
+    let C = ltb (f 1 0) 2 in
+    let D = ltb (f 1 1) 2 in
+    on-digits (λ x y. f x y < 2)
+    (ltb→lt (f 0 0) 2 (and-l A B (and-l (A && B) C (and-l (A && B && C) D t))))
+    (ltb→lt (f 0 1) 2 (and-r A B (and-l (A && B) C (and-l (A && B && C) D t))))
+    (ltb→lt (f 1 0) 2 (and-r (A && B) C (and-l (A && B && C) D t)))
+    (ltb→lt (f 1 1) 2 (and-r (A && B && C) D t))
 
 half : (k : ℕ) {n : ℕ} → n < 2 ^ suc k → n / 2 < 2 ^ k
 half k {n} h = omega (arith, h, pow-suc 2 k)
@@ -60,12 +74,7 @@ complement f rule zero a b = refl
 complement f rule (suc k) a b = omega (arith, complement f rule k (a / 2) (b / 2), rule (a % 2) (b % 2) (digit a) (digit b), pow-suc 2 k)
 
 pub nand-is : (a b : ℕ) → a < 2 ^ 64 → b < 2 ^ 64 → 2 ^ 64 - 1 - machine.bitAnd a b ≡ bitwise notBothDigits 64 a b
-nand-is a b h k = rw (and-is a b h k) (omega (arith, complement bothDigits (both-digit) 64 a b))
-  where
-    both-digit : (x y : ℕ) → x < 2 → y < 2 → x * y < 2
-    both-digit zero y l m = omega arith
-    both-digit (suc zero) y l m = omega arith
-    both-digit (suc (suc x)) y l m = omega arith
+nand-is a b h k = rw (and-is a b h k) (omega (arith, complement bothDigits (digit-below bothDigits tt) 64 a b))
 
 -- the result has k digits
 pub bitwise-below : (f : ℕ → ℕ → ℕ) → ((x y : ℕ) → x < 2 → y < 2 → f x y < 2) → (k a b : ℕ) → bitwise f k a b < 2 ^ k

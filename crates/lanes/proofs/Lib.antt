@@ -2,4 +2,6 @@ pub mod Ints
 pub mod Bits
 pub mod Floats
 pub mod Rem
-pub mod Loops
+pub mod Turns
+pub mod Below
+pub mod Cases

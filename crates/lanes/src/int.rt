@@ -146,12 +146,11 @@ pub fn int_mul(a: u64, b: u64) -> u64
     wrapping_mul(a, b)
 }
 
-// The divisor 0 leaves the lane.
 pub fn int_div(a: u64, b: u64) -> u64
     ensures { λ r. ⌜ r ≡ intDiv a b ⌝ }
 {
     if b == 0 {
-        return a;
+        return a; // no quotient: the lane is left
     }
     let unlike = (a < HALF) != (b < HALF);
     with_sign(unlike, magnitude(a) / magnitude(b))
@@ -161,7 +160,7 @@ pub fn int_rem(a: u64, b: u64) -> u64
     ensures { λ r. ⌜ r ≡ intRem a b ⌝ }
 {
     if b == 0 {
-        return a;
+        return a; // no remainder: the lane is left
     }
     with_sign(!(a < HALF), magnitude(a) % magnitude(b))
 }

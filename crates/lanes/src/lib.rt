@@ -2,3 +2,4 @@
 pub mod int; // int.rt: a lane as an integer
 pub mod float; // float.rt: a lane as a float
 pub mod lane; // lane.rt: the lane ops, and the rule of each
+pub mod loops; // loops.rt: the rules over the first n lanes of lent slices

@@ -1,0 +1,43 @@
+-- `lanes::loops::copy_lanes` meets its contract. The invariant: i lanes are done. The measure is what is left of n. Assumes nothing.
+use Prim.Native.Nat.{ℕ, _≤_, _-_}
+use mathlib.Core.Path.{_≡_, refl, _∙_, ap}
+use native.Mathlib.Omega.{arith}
+use borrow.Author.Needs.{needs}
+use lib.ListN.{length}
+use Rattle.lanes.specs.Lane.{zipTo, beside}
+use Rattle.lanes.proofs.Turns.{zip-again}
+use Rattle.lanes.proofs.loops.copy_lanes.Statement.{statement}
+use Rattle.lanes.proofs.loops.copy_lanes.Tie as tie
+
+abbrev Inv-loop : tie.InvT-loop
+Inv-loop to₀ from n i₀ to i = (i ≤ n) × (length to ≡ length to₀) × (to ≡ zipTo beside i to₀ from)
+
+abbrev μ-loop : tie.MeasureT-loop
+μ-loop to₀ from n i₀ to i = n - i
+
+loop-holds : tie.Need-loop-holds Inv-loop μ-loop
+unfolding zipTo
+loop-holds c = search needs
+
+loop-again : tie.Need-loop-again Inv-loop μ-loop
+loop-again c = (search needs, search needs, zip-again beside _ _ _ _ _ (c .before .before .loop .inv .2) refl (search needs) (search needs))
+
+returns : tie.Need-returns Inv-loop μ-loop
+returns c = let a = c .before .before .args in let e : c .before .loop .i ≡ a .n = omega arith in c .before .loop .inv .2 ∙ ap (λ (k : ℕ). zipTo beside k (a .to .now) (a .from .now)) e
+
+pub copy-lanes-spec : {M : Type 1} → statement M
+copy-lanes-spec =
+    tie.close
+    (tie.spec
+    Inv-loop
+    μ-loop
+    loop-holds
+    (λ c. search needs)
+    (λ c. search needs)
+    (λ c. search needs)
+    (λ c. search needs)
+    (λ c. search needs)
+    (λ c. search needs)
+    loop-again
+    (λ c. search needs)
+    returns)

@@ -1,0 +1,46 @@
+-- `lanes::loops::zip_lanes` meets its contract. The invariant: so many lanes are done. The measure is what is left of n. Assumes nothing.
+use Prim.Native.Nat.{ℕ, _≤_, _-_}
+use mathlib.Core.Path.{_≡_, _∙_, ap}
+use native.Mathlib.Omega.{arith}
+use borrow.Author.Needs.{needs}
+use lib.ListN.{length}
+use Rattle.lanes.specs.Lane.{cellRule, zipTo}
+use Rattle.lanes.proofs.Turns.{zip-again}
+use Rattle.lanes.proofs.loops.zip_lanes.Statement.{statement}
+use Rattle.lanes.proofs.loops.zip_lanes.Tie as tie
+
+abbrev Inv-loop : tie.InvT-loop
+Inv-loop op register₀ cells n lane₀ register lane = (lane ≤ n) × (length register ≡ length register₀) × (register ≡ zipTo (cellRule op) lane register₀ cells)
+
+abbrev μ-loop : tie.MeasureT-loop
+μ-loop op register₀ cells n lane₀ register lane = n - lane
+
+loop-holds : tie.Need-loop-holds Inv-loop μ-loop
+unfolding zipTo
+loop-holds c = search needs
+
+loop-again : tie.Need-loop-again Inv-loop μ-loop
+loop-again c = (search needs, search needs, zip-again (cellRule (c .before .before .before .before .before .before .before .args .op)) _ _ _ _ _ (c .before .before .before .before .loop .inv .2) (c .cell-rule .ensures) (search needs) (search needs))
+
+returns : tie.Need-returns Inv-loop μ-loop
+returns c = let a = c .before .before .before .before .args in let e : c .before .loop .lane ≡ a .n = omega arith in c .before .loop .inv .2 ∙ ap (λ (k : ℕ). zipTo (cellRule (a .op)) k (a .register .now) (a .cells .now)) e
+
+pub zip-lanes-spec : {M : Type 1} → statement M
+zip-lanes-spec =
+    tie.close
+    (tie.spec
+    Inv-loop
+    μ-loop
+    loop-holds
+    (λ c. search needs)
+    (λ c. search needs)
+    (λ c. search needs)
+    (λ c. search needs)
+    (λ c κs. search needs)
+    (λ c. search needs)
+    (λ c. search needs)
+    (λ c. search needs)
+    (λ c. search needs)
+    loop-again
+    (λ c. search needs)
+    returns)
