@@ -1,3 +1,4 @@
+use Rattle.ops.specs.Patch.{refusedAt}
 use borrow.Author.Needs.{needs}
 use Rattle.ops.proofs.reader.refused_at.Statement.{statement}
 use Rattle.ops.proofs.reader.refused_at.Tie as tie
@@ -11,7 +12,8 @@ number-of-requires c κs = search needs
 
 -- src/reader.rt:34:1
 returns : tie.Need-returns
-returns c = ?
+unfolding refusedAt
+returns c = simp (c .number-of .ensures)
 
 pub refused-at-spec : {M : Type 1} → statement M
 refused-at-spec = tie.close (tie.spec number-of-requires returns)

@@ -1,3 +1,5 @@
+use mathlib.Core.Path.{refl}
+use Rattle.ops.specs.Refusals.{numberOf}
 use borrow.Author.Needs.{needs}
 use Rattle.ops.proofs.refusals.number_of.Statement.{statement}
 use Rattle.ops.proofs.refusals.number_of.Tie as tie
@@ -42,39 +44,48 @@ enum-told-9 c = search needs
 
 -- src/refusals.rt:19:1
 returns : tie.Need-returns
-returns c = ?
+unfolding numberOf
+returns c = rw (c .enum-told .given .1) refl
 
 -- src/refusals.rt:19:1
 returns-2 : tie.Need-returns-2
-returns-2 c = ?
+unfolding numberOf
+returns-2 c = rw (c .enum-told2 .given .1) refl
 
 -- src/refusals.rt:19:1
 returns-3 : tie.Need-returns-3
-returns-3 c = ?
+unfolding numberOf
+returns-3 c = rw (c .enum-told3 .given .1) refl
 
 -- src/refusals.rt:19:1
 returns-4 : tie.Need-returns-4
-returns-4 c = ?
+unfolding numberOf
+returns-4 c = rw (c .enum-told4 .given .1) refl
 
 -- src/refusals.rt:19:1
 returns-5 : tie.Need-returns-5
-returns-5 c = ?
+unfolding numberOf
+returns-5 c = rw (c .enum-told5 .given .1) refl
 
 -- src/refusals.rt:19:1
 returns-6 : tie.Need-returns-6
-returns-6 c = ?
+unfolding numberOf
+returns-6 c = rw (c .enum-told6 .given .1) refl
 
 -- src/refusals.rt:19:1
 returns-7 : tie.Need-returns-7
-returns-7 c = ?
+unfolding numberOf
+returns-7 c = rw (c .enum-told7 .given .1) refl
 
 -- src/refusals.rt:19:1
 returns-8 : tie.Need-returns-8
-returns-8 c = ?
+unfolding numberOf
+returns-8 c = rw (c .enum-told8 .given .1) refl
 
 -- src/refusals.rt:19:1
 returns-9 : tie.Need-returns-9
-returns-9 c = ?
+unfolding numberOf
+returns-9 c = rw (c .enum-told9 .given .1) refl
 
 pub number-of-spec : {M : Type 1} → statement M
 number-of-spec =
