@@ -2,7 +2,7 @@
 """Patch files, good and bad, with their answers, worked out with no code of this repository.
 
 Writes crates/file_vectors/stdin, the list of files, and crates/file_vectors/stdout, a line 'number place ops' for each. The
-reader below is written from the paper's sections 'Patch file' and 'Numbers given back' alone.
+reader below is written from the paper's sections 'Patch file' and 'Numbers given back', and the readings of their open points.
 
 A file of the list is four lengths of two bytes, low byte first, start, back, more and tail; then start bytes and tail
 bytes. It stands for the start bytes, then more bytes, each the same as the one back bytes before it, then the tail bytes.
