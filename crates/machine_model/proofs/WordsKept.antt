@@ -1,4 +1,4 @@
--- A step leads from a state whose values are 64-bit words to another, where the lane rules give words; so does a run. Assumes nothing.
+-- A step leads from a state whose values are 64-bit words to another; so does a run. Assumes nothing.
 use Prim.Native.Nat.{ℕ, zero, suc, _+_, _-_, _*_, _/_, _%_, _^_, _≤_, _<_}
 use native.Mathlib.Omega.{arith}
 use borrow.Author.Tests.{ltb-true}
@@ -11,9 +11,8 @@ use lib.ListN.{length, take, drop}
 use lib.ListN
 use Rattle.lanes.specs.Int.{intAdd}
 use Rattle.lanes.specs.Lane.{cellRule, laneRule}
-use Rattle.lanes.specs.declared.lane.CellOp.{CellOp}
 use Rattle.lanes.specs.declared.lane.CellOp.the-variants.{Index}
-use Rattle.lanes.specs.declared.lane.LaneOp.{LaneOp}
+use Rattle.lanes.proofs.Below.{cellRule-below, laneRule-below}
 use Rattle.ops.specs.Op.{Op, Control, Plain, isWhile}
 use Rattle.ops.specs.Op.Control.{function, call, ret, while, if, else, end}
 use Rattle.ops.specs.Op.Plain.{comment, store, move, swap, locate, offset, deref, refer, cell, lane, get, put, peek, poke, alloc, free}
@@ -97,17 +96,10 @@ grown-le n = by (ltb n 30_000)
 abbrev Values : List ℕ → List ℕ → List ℕ → Type 0
 Values tape channel outs = Each Word tape × Each Word channel × Each Word outs
 
--- what is asked of the lane rules: words give words
-abbrev pub CellWords : Type 0
-CellWords = (k : CellOp) (a b : ℕ) → a < 2 ^ 64 → b < 2 ^ 64 → cellRule k a b < 2 ^ 64
-
-abbrev pub LaneWords : Type 0
-LaneWords = (k : LaneOp) (a : ℕ) → a < 2 ^ 64 → laneRule k a < 2 ^ 64
-
-module _ (cell-words : CellWords) (lane-words : LaneWords) (g : Given) (lim : Limited (g .ops)) where
-  offset-word : (v a : ℕ) → Word v → Word a → Word (intAdd a v)
+module _ (g : Given) (lim : Limited (g .ops)) where
+  offset-word : (v a : ℕ) → Word a → Word (intAdd a v)
   unfolding cellRule
-  offset-word v a h l = cell-words Index a v l h
+  offset-word v a h = cellRule-below Index a v h
 
   module _ (s : State) (f : Formed g s) (w : Words g s) where
     worded : (t : State) → Each Word (t .reg) → Values (t .tape) (t .channel) (t .outs) → Leads (Words g) (next t)
@@ -198,7 +190,7 @@ module _ (cell-words : CellWords) (lane-words : LaneWords) (g : Given) (lim : Li
         bar-leads (Words g) _ 22 _
         (λ _. bar-leads (Words g) _ 23 _
         (λ _. worded _
-        (each-zip Word (cellRule k) (cell-words k) n (s .reg) (drop (s .pointer) (s .tape)) (w .in-reg) (each-drop Word (s .pointer) (s .tape) (w .in-tape))) rest))
+        (each-zip Word (cellRule k) (λ a b p q. cellRule-below k a b p) n (s .reg) (drop (s .pointer) (s .tape)) (w .in-reg) (each-drop Word (s .pointer) (s .tape) (w .in-tape))) rest))
     act-in (swap n) h =
         bar-leads (Words g) _ 22 _
         (λ _. bar-leads (Words g) _ 23 _
@@ -216,8 +208,8 @@ module _ (cell-words : CellWords) (lane-words : LaneWords) (g : Given) (lim : Li
     act-in poke h =
         bar-leads (Words g) _ 34 _ (λ _. worded _ (w .in-reg) (w .in-tape, each-end Word (s .channel) (lane0 s) (w .in-channel) lane0-word, w .in-outs))
     act-in locate h = worded _ (with-lane (s .pointer) (omega (arith, f .near))) rest
-    act-in (lane k n) h = worded _ (each-map Word (laneRule k) (lane-words k) n (s .reg) (w .in-reg)) rest
-    act-in (offset v n) h = worded _ (each-map Word (λ a. intAdd a v) (λ a. offset-word v a (h .0)) n (s .reg) (w .in-reg)) rest
+    act-in (lane k n) h = worded _ (each-map Word (laneRule k) (λ a p. laneRule-below k a) n (s .reg) (w .in-reg)) rest
+    act-in (offset v n) h = worded _ (each-map Word (λ a. intAdd a v) (offset-word v) n (s .reg) (w .in-reg)) rest
     act-in free h = worded _ (w .in-reg) rest
     act-in (comment bs) h = worded _ (w .in-reg) rest
 
