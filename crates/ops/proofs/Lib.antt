@@ -1,3 +1,5 @@
 pub mod Storage
 pub mod ValuesAt
+pub mod TextAt
 pub mod Payload
+pub mod Room
