@@ -3,3 +3,10 @@ pub mod ValuesAt
 pub mod TextAt
 pub mod Payload
 pub mod Room
+pub mod Whole
+pub mod Reading
+pub mod Items
+pub mod Rows
+pub mod Meaning
+pub mod Unique
+pub mod Cases
