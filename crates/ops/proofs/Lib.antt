@@ -10,3 +10,6 @@ pub mod Rows
 pub mod Meaning
 pub mod Unique
 pub mod Cases
+pub mod Digits
+pub mod Encoded
+pub mod Written
