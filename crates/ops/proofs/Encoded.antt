@@ -1,8 +1,8 @@
 -- The table's row of an op that is written, and what its payload says where it stands. Assumes nothing.
-use mathlib.Core.Path.{_≡_, _∙_, refl, sym, ap, ap₂}
+use mathlib.Core.Path.{_≡_, _∙_, refl, ap, ap₂}
 use mathlib.Core.Bool.{true, false}
 use mathlib.Core.List.{List, [], _∷_, _++_, append-assoc}
-use Prim.Native.Nat.{ℕ, zero, suc, _+_, _*_, _/_, _%_, _^_, _<_, _≤_}
+use Prim.Native.Nat.{ℕ, _+_, _*_, _%_, _^_, _<_, _≤_}
 use native.Mathlib.Omega.{arith}
 use borrow.Author.Tests.{le-leb, eq-eqb}
 use lib.Dec.{leb, eqb}
@@ -16,13 +16,14 @@ use Rattle.ops.specs.declared.op.Mode.the-variants.{Char, Int, Other}
 use Rattle.ops.specs.Bytes.{u16At, u32At, u64At}
 use Rattle.ops.specs.Kinds.{shape, kindAt, indexOf}
 use Rattle.ops.specs.Record.{lengthOk, countOf, modeOf}
-use Rattle.ops.specs.Op.{Control, Plain, Sort, Op, kindOf}
+use Rattle.ops.specs.Op.{Control, Plain, Op, kindOf}
 use Rattle.ops.specs.Op.Control.{function, call, ret, while, if, else, end}
 use Rattle.ops.specs.Op.Plain.{comment, store, move, swap, locate, offset, deref, refer, cell, lane, get, put, peek, poke, alloc, free}
 use Rattle.ops.specs.Op.Sort.{ints, floats}
 use Rattle.ops.specs.Op.Op.{control, set, load, plain}
+use Rattle.ops.specs.Patch.{markOf}
 use Rattle.ops.specs.Ops.{rows, rowAt, modeIn, opWith, opCount}
-use Rattle.ops.specs.Write.{le16, le32, le64, modeNumber, valueBytes, payloadOf, PlainFits, Fits}
+use Rattle.ops.specs.Write.{le16, le32, le64, modeNumber, valueBytes, payloadOf, PlainFits, Fits, markIn}
 use Rattle.ops.proofs.Rows.{rule}
 use Rattle.ops.proofs.Digits.{after-two, at16, at32, at64, length-le64, at-values, at-text}
 
@@ -34,79 +35,80 @@ Known o =
     (leb 62 (indexOf (kindOf o)) ≡ false)
     × (leb 65536 (kindOf o) ≡ false)
     × (kindAt (indexOf (kindOf o)) ≡ rule o)
+    × (markOf (indexOf (kindOf o)) ≡ markIn o)
     × ((s : List ℕ) (p n : ℕ) → opWith s p n (rowAt (indexOf (kindOf o))) ≡ opWith s p n o)
 
 control-known : (c : Control) → Known (control c)
-unfolding indexOf kindAt rowAt rows
-control-known function = (refl, refl, refl, λ s p m. refl)
-control-known call = (refl, refl, refl, λ s p m. refl)
-control-known ret = (refl, refl, refl, λ s p m. refl)
-control-known while = (refl, refl, refl, λ s p m. refl)
-control-known if = (refl, refl, refl, λ s p m. refl)
-control-known else = (refl, refl, refl, λ s p m. refl)
-control-known end = (refl, refl, refl, λ s p m. refl)
+unfolding indexOf kindAt rowAt rows markOf
+control-known function = (refl, refl, refl, refl, λ s p m. refl)
+control-known call = (refl, refl, refl, refl, λ s p m. refl)
+control-known ret = (refl, refl, refl, refl, λ s p m. refl)
+control-known while = (refl, refl, refl, refl, λ s p m. refl)
+control-known if = (refl, refl, refl, refl, λ s p m. refl)
+control-known else = (refl, refl, refl, refl, λ s p m. refl)
+control-known end = (refl, refl, refl, refl, λ s p m. refl)
 
 cell-known : (k : CellOp) (n : ℕ) → Known (plain (cell k n))
-unfolding indexOf kindAt rowAt rows
-cell-known Index n = (refl, refl, refl, λ s p m. refl)
-cell-known BitwiseNand n = (refl, refl, refl, λ s p m. refl)
-cell-known BitwiseAnd n = (refl, refl, refl, λ s p m. refl)
-cell-known BitwiseOr n = (refl, refl, refl, λ s p m. refl)
-cell-known BitwiseXor n = (refl, refl, refl, λ s p m. refl)
-cell-known LeftShift n = (refl, refl, refl, λ s p m. refl)
-cell-known LogicalRightShift n = (refl, refl, refl, λ s p m. refl)
-cell-known ArithmeticRightShift n = (refl, refl, refl, λ s p m. refl)
-cell-known And n = (refl, refl, refl, λ s p m. refl)
-cell-known Or n = (refl, refl, refl, λ s p m. refl)
-cell-known Add n = (refl, refl, refl, λ s p m. refl)
-cell-known Sub n = (refl, refl, refl, λ s p m. refl)
-cell-known Mul n = (refl, refl, refl, λ s p m. refl)
-cell-known Div n = (refl, refl, refl, λ s p m. refl)
-cell-known Rem n = (refl, refl, refl, λ s p m. refl)
-cell-known FloatAdd n = (refl, refl, refl, λ s p m. refl)
-cell-known FloatSub n = (refl, refl, refl, λ s p m. refl)
-cell-known FloatMul n = (refl, refl, refl, λ s p m. refl)
-cell-known FloatDiv n = (refl, refl, refl, λ s p m. refl)
-cell-known FloatRem n = (refl, refl, refl, λ s p m. refl)
+unfolding indexOf kindAt rowAt rows markOf
+cell-known Index n = (refl, refl, refl, refl, λ s p m. refl)
+cell-known BitwiseNand n = (refl, refl, refl, refl, λ s p m. refl)
+cell-known BitwiseAnd n = (refl, refl, refl, refl, λ s p m. refl)
+cell-known BitwiseOr n = (refl, refl, refl, refl, λ s p m. refl)
+cell-known BitwiseXor n = (refl, refl, refl, refl, λ s p m. refl)
+cell-known LeftShift n = (refl, refl, refl, refl, λ s p m. refl)
+cell-known LogicalRightShift n = (refl, refl, refl, refl, λ s p m. refl)
+cell-known ArithmeticRightShift n = (refl, refl, refl, refl, λ s p m. refl)
+cell-known And n = (refl, refl, refl, refl, λ s p m. refl)
+cell-known Or n = (refl, refl, refl, refl, λ s p m. refl)
+cell-known Add n = (refl, refl, refl, refl, λ s p m. refl)
+cell-known Sub n = (refl, refl, refl, refl, λ s p m. refl)
+cell-known Mul n = (refl, refl, refl, refl, λ s p m. refl)
+cell-known Div n = (refl, refl, refl, refl, λ s p m. refl)
+cell-known Rem n = (refl, refl, refl, refl, λ s p m. refl)
+cell-known FloatAdd n = (refl, refl, refl, refl, λ s p m. refl)
+cell-known FloatSub n = (refl, refl, refl, refl, λ s p m. refl)
+cell-known FloatMul n = (refl, refl, refl, refl, λ s p m. refl)
+cell-known FloatDiv n = (refl, refl, refl, refl, λ s p m. refl)
+cell-known FloatRem n = (refl, refl, refl, refl, λ s p m. refl)
 
 lane-known : (k : LaneOp) (n : ℕ) → Known (plain (lane k n))
-unfolding indexOf kindAt rowAt rows
-lane-known BitwiseNot n = (refl, refl, refl, λ s p m. refl)
-lane-known Not n = (refl, refl, refl, λ s p m. refl)
-lane-known Neg n = (refl, refl, refl, λ s p m. refl)
-lane-known Inc n = (refl, refl, refl, λ s p m. refl)
-lane-known Dec n = (refl, refl, refl, λ s p m. refl)
-lane-known IsNonNegative n = (refl, refl, refl, λ s p m. refl)
-lane-known ToInt n = (refl, refl, refl, λ s p m. refl)
-lane-known ToFloat n = (refl, refl, refl, λ s p m. refl)
-lane-known FloatNeg n = (refl, refl, refl, λ s p m. refl)
-lane-known FloatIsNonNegative n = (refl, refl, refl, λ s p m. refl)
+unfolding indexOf kindAt rowAt rows markOf
+lane-known BitwiseNot n = (refl, refl, refl, refl, λ s p m. refl)
+lane-known Not n = (refl, refl, refl, refl, λ s p m. refl)
+lane-known Neg n = (refl, refl, refl, refl, λ s p m. refl)
+lane-known Inc n = (refl, refl, refl, refl, λ s p m. refl)
+lane-known Dec n = (refl, refl, refl, refl, λ s p m. refl)
+lane-known IsNonNegative n = (refl, refl, refl, refl, λ s p m. refl)
+lane-known ToInt n = (refl, refl, refl, refl, λ s p m. refl)
+lane-known ToFloat n = (refl, refl, refl, refl, λ s p m. refl)
+lane-known FloatNeg n = (refl, refl, refl, refl, λ s p m. refl)
+lane-known FloatIsNonNegative n = (refl, refl, refl, refl, λ s p m. refl)
 
 plain-known : (q : Plain) → Known (plain q)
-unfolding indexOf kindAt rowAt rows
-plain-known (comment bs) = (refl, refl, refl, λ s p m. refl)
-plain-known (store n) = (refl, refl, refl, λ s p m. refl)
-plain-known (move v) = (refl, refl, refl, λ s p m. refl)
-plain-known (swap n) = (refl, refl, refl, λ s p m. refl)
-plain-known locate = (refl, refl, refl, λ s p m. refl)
-plain-known (offset v n) = (refl, refl, refl, λ s p m. refl)
-plain-known deref = (refl, refl, refl, λ s p m. refl)
-plain-known refer = (refl, refl, refl, λ s p m. refl)
-plain-known (get m) = (refl, refl, refl, λ s p m. refl)
-plain-known (put m) = (refl, refl, refl, λ s p m. refl)
-plain-known peek = (refl, refl, refl, λ s p m. refl)
-plain-known poke = (refl, refl, refl, λ s p m. refl)
-plain-known alloc = (refl, refl, refl, λ s p m. refl)
-plain-known free = (refl, refl, refl, λ s p m. refl)
+unfolding indexOf kindAt rowAt rows markOf
+plain-known (comment bs) = (refl, refl, refl, refl, λ s p m. refl)
+plain-known (store n) = (refl, refl, refl, refl, λ s p m. refl)
+plain-known (move v) = (refl, refl, refl, refl, λ s p m. refl)
+plain-known (swap n) = (refl, refl, refl, refl, λ s p m. refl)
+plain-known locate = (refl, refl, refl, refl, λ s p m. refl)
+plain-known (offset v n) = (refl, refl, refl, refl, λ s p m. refl)
+plain-known deref = (refl, refl, refl, refl, λ s p m. refl)
+plain-known refer = (refl, refl, refl, refl, λ s p m. refl)
+plain-known (get m) = (refl, refl, refl, refl, λ s p m. refl)
+plain-known (put m) = (refl, refl, refl, refl, λ s p m. refl)
+plain-known peek = (refl, refl, refl, refl, λ s p m. refl)
+plain-known poke = (refl, refl, refl, refl, λ s p m. refl)
+plain-known alloc = (refl, refl, refl, refl, λ s p m. refl)
+plain-known free = (refl, refl, refl, refl, λ s p m. refl)
 plain-known (cell k n) = cell-known k n
 plain-known (lane k n) = lane-known k n
 
 pub known : (o : Op) → Known o
-unfolding indexOf kindAt rowAt rows
+unfolding indexOf kindAt rowAt rows markOf
 known (control c) = control-known c
-known (set ints vs) = (refl, refl, refl, λ s p m. refl)
-known (set floats vs) = (refl, refl, refl, λ s p m. refl)
-known (load n) = (refl, refl, refl, λ s p m. refl)
+known (set ints vs) = (refl, refl, refl, refl, λ s p m. refl)
+known (set floats vs) = (refl, refl, refl, refl, λ s p m. refl)
+known (load n) = (refl, refl, refl, refl, λ s p m. refl)
 known (plain q) = plain-known q
 
 -- ---- the payload

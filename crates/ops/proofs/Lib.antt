@@ -13,3 +13,6 @@ pub mod Cases
 pub mod Digits
 pub mod Encoded
 pub mod Written
+pub mod RoundTrip
+pub mod BytesBack
+pub mod Rewritten

@@ -1,21 +1,21 @@
 -- A record that is written is read as its op. Assumes nothing.
 use mathlib.Core.Path.{_≡_, _∙_, refl, sym, ap}
-use mathlib.Core.Bool.{Bool, true, false, not}
-use mathlib.Core.List.{List, [], _∷_, _++_, append-assoc}
+use mathlib.Core.Bool.{false}
+use mathlib.Core.List.{List, _++_, append-assoc}
 use Prim.Native.Nat.{ℕ, _+_, _-_, _%_, _<_, _≤_}
 use native.Mathlib.Omega.{arith}
 use borrow.Author.Tests.{le-ltb, leb-false}
-use lib.Dec.{ltb, leb, eqb}
-use lib.ListN.{length, drop, length-append, length-drop}
-use lib.Seq.{drop-append-seam}
+use lib.Dec.{ltb}
+use lib.ListN.{length, take, drop, length-append, length-drop}
+use lib.Seq.{drop-append-seam, drop-at, length-take-le}
 use Rattle.ops.specs.Bytes.{u16At, u32At}
 use Rattle.ops.specs.Kinds.{shape, kindAt, indexOf}
-use Rattle.ops.specs.Record.{recordAt, bodyAt, lengthOk, countOf, modeOf}
+use Rattle.ops.specs.Record.{recordAt, bodyAt, modeOf}
 use Rattle.ops.specs.declared.records.Record.the-variants.{Whole}
 use Rattle.ops.specs.Op.{Op, kindOf}
 use Rattle.ops.specs.Patch.{Item, item}
-use Rattle.ops.specs.Ops.{opWith, rowAt, opAt, opCount}
-use Rattle.ops.specs.Write.{le16, le32, recordOf, payloadOf, encode, Fits}
+use Rattle.ops.specs.Ops.{opAt, opCount}
+use Rattle.ops.specs.Write.{le16, le32, recordOf, placed, payloadOf, encode, Fits}
 use Rattle.ops.proofs.Rows.{rule}
 use Rattle.ops.proofs.Digits.{after, at16, at32}
 use Rattle.ops.proofs.Encoded.{known, Reads, payload-reads}
@@ -81,7 +81,7 @@ module _ (o : Op) (s : List ℕ) (p : ℕ) (t : List ℕ) (d : drop p s ≡ enco
     -- and its item means the op
     pub read-back : opAt s (itemOf o p) ≡ o
     unfolding opAt
-    read-back = known o .3 s (p + 6) (opCount o) ∙ reads .back
+    read-back = known o .4 s (p + 6) (opCount o) ∙ reads .back
 
 -- a record that is written anywhere is read as its op
 pub record-back : (pre post : List ℕ) (o : Op) → Fits o
@@ -91,3 +91,16 @@ record-back pre post o f =
     let s = pre ++ (encode o ++ post) in
     let d : drop (length pre) s ≡ encode o ++ post = drop-append-seam pre (encode o ++ post) in
     (written o s (length pre) post d f, read-back o s (length pre) post d f)
+
+-- what the writer leaves of lent bytes is read as the op
+pub placed-back : (out : List ℕ) (at : ℕ) (o : Op) → Fits o → at ≤ length out
+    → (recordAt (placed out at (encode o)) at ≡ Whole (indexOf (kindOf o)) (at + 6) (length (payloadOf o)) (opCount o) (at + 6 + length (payloadOf o)))
+    × (opAt (placed out at (encode o)) (itemOf o at) ≡ o)
+unfolding placed
+placed-back out at o f h =
+    let t = drop (at + length (encode o)) out in
+    let s = take at out ++ encode o ++ t in
+    let d : drop at s ≡ encode o ++ t =
+    ap (drop at) (append-assoc (take at out) (encode o) t)
+    ∙ drop-at (take at out) (encode o ++ t) at (length-take-le at out h) in
+    (written o s at t d f, read-back o s at t d f)

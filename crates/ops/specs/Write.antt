@@ -6,7 +6,7 @@ use lib.ListN.{length, take, drop}
 use lib.Dec.{leb}
 use Rattle.ops.specs.declared.op.Mode.{Mode}
 use Rattle.ops.specs.declared.op.Mode.the-variants.{Char, Int, Other}
-use Rattle.ops.specs.Op.{Plain, Op, kindOf}
+use Rattle.ops.specs.Op.{Plain, Op, kindOf, isFunction}
 use Rattle.ops.specs.Op.Plain.{comment, store, move, swap, locate, offset, deref, refer, cell, lane, get, put, peek, poke, alloc, free}
 use Rattle.ops.specs.Op.Op.{control, set, load, plain}
 use Rattle.ops.specs.declared.writer.Written.{Written}
@@ -126,3 +126,22 @@ Fits (control c) = Unit {0}
 Fits (set k vs) = (length vs ≤ 1024) × Below (2 ^ 64) vs
 Fits (load n) = n ≤ 1024
 Fits (plain p) = PlainFits p
+
+abbrev pub EachFits : List Op → Type 0
+EachFits [] = Unit {0}
+EachFits (o ∷ os) = Fits o × EachFits os
+
+-- the Function marks among ops
+abbrev pub markIn : Op → ℕ
+markIn o = cond (isFunction o) 1 0
+
+abbrev pub marksIn : List Op → ℕ
+marksIn [] = 0
+marksIn (o ∷ os) = markIn o + marksIn os
+
+-- "file 65,536 bytes; 4,096 ops; 256 Function marks; 1,024 lanes"
+pub record AllFit (os : List Op) : Type 0 where
+  pub each : EachFits os
+  pub ops : length os ≤ 4096
+  pub marks : marksIn os ≤ 256
+  pub bytes : length (encodeAll os) ≤ 65536
