@@ -1,2 +1,8 @@
 // Ops and the patch file.
-pub mod op;
+pub mod op; // how Get reads and how Put writes
+pub mod limits; // the last file length, op count, mark count and lane count that are accepted
+pub mod bytes; // little-endian numbers
+pub mod kinds; // the table of the 62 kinds
+pub mod refusals; // why a file is refused
+pub mod records; // the record at a place
+pub mod reader; // the whole file

@@ -1,0 +1,152 @@
+// The record at a place of a patch file, tested in the order of the refusals.
+ghost use mathlib.Core.Path.{_≡_};
+ghost use mathlib.Core.Bool.{Bool, true};
+ghost use Prim.Native.Nat.{ℕ, _+_, _<_, _≤_};
+ghost use lib.ListN.{length};
+ghost use Rattle.ops.specs.Record.{lengthOk, countOf, modeOf, bodyAt, recordAt};
+use crate::bytes::u16_at;
+use crate::bytes::u32_at;
+use crate::kinds::index_of;
+use crate::kinds::kind_at;
+use crate::limits::LANES;
+use crate::refusals::Refusal;
+
+// A whole record: the row of its kind, the first byte and the length of its payload, the lanes, values or bytes
+// that the payload counts, and the byte after it. Or the refusal, and the record's first byte.
+pub enum Record {
+    Whole {
+        kind: usize,
+        body: usize,
+        len: usize,
+        count: usize,
+        next: usize,
+    },
+    Bad {
+        refusal: Refusal,
+        place: usize,
+    },
+}
+
+// Whether a payload of `len` bytes has a length that its shape may have.
+pub fn length_ok(shape: u8, len: usize) -> bool
+    ensures { λ r. ⌜ r ≡ lengthOk shape len ⌝ }
+{
+    match shape {
+        1 => len <= 255,
+        2 => len % 8 == 0,
+        3 => len == 4,
+        4 => len == 8,
+        5 => len == 12,
+        6 => len == 2,
+        _ => len == 0,
+    }
+}
+
+// What a payload counts: bytes of text, values, or lanes.
+pub fn count_of(bytes: &[u8], shape: u8, at: usize, len: usize) -> usize
+    requires { ⌜ (at + len ≤ length (now bytes)) × (lengthOk shape len ≡ true) ⌝ }
+    ensures { λ r. ⌜ r ≡ countOf (now (bytes .entry)) shape at len ⌝ }
+{
+    match shape {
+        1 => len,
+        2 => len / 8,
+        3 => u32_at(bytes, at),
+        5 => u32_at(bytes, at + 8),
+        _ => 0,
+    }
+}
+
+// The mode that a payload names; 0 where it names none.
+pub fn mode_of(bytes: &[u8], shape: u8, at: usize, len: usize) -> usize
+    requires { ⌜ (at + len ≤ length (now bytes)) × (lengthOk shape len ≡ true) ⌝ }
+    ensures { λ r. ⌜ r ≡ modeOf (now (bytes .entry)) shape at ⌝ }
+{
+    match shape {
+        6 => u16_at(bytes, at),
+        _ => 0,
+    }
+}
+
+// The record at byte `at` whose kind is row k and whose payload has `len` bytes.
+pub fn body_at(bytes: &[u8], at: usize, k: usize, len: usize) -> Record
+    requires { ⌜ (at + 6 + len ≤ length (now bytes)) × (length (now bytes) ≤ 65536) ⌝ }
+    ensures { λ r. ⌜ r ≡ bodyAt (now (bytes .entry)) at k len ⌝ }
+{
+    let kind = kind_at(k);
+    let shape = kind.0;
+    let body = at + 6;
+    if shape == 7 {
+        return Record::Bad {
+            refusal: Refusal::LeftOut,
+            place: at,
+        };
+    }
+    if !length_ok(shape, len) {
+        return Record::Bad {
+            refusal: Refusal::WrongLength,
+            place: at,
+        };
+    }
+    let count = count_of(bytes, shape, body, len);
+    if LANES < count {
+        return Record::Bad {
+            refusal: Refusal::TooManyLanes,
+            place: at,
+        };
+    }
+    let mode = mode_of(bytes, shape, body, len);
+    if 3 < mode {
+        return Record::Bad {
+            refusal: Refusal::WrongMode,
+            place: at,
+        };
+    }
+    if mode == 2 {
+        return Record::Bad {
+            refusal: Refusal::LeftOut,
+            place: at,
+        };
+    }
+    Record::Whole {
+        kind: k,
+        body,
+        len,
+        count,
+        next: body + len,
+    }
+}
+
+// What stands at byte `at` of a patch.
+pub fn record_at(bytes: &[u8], at: usize) -> Record
+    requires { ⌜ (at ≤ length (now bytes)) × (length (now bytes) ≤ 65536) ⌝ }
+    ensures { λ r. ⌜ r ≡ recordAt (now (bytes .entry)) at ⌝ }
+{
+    if bytes.len() < at + 4 {
+        return Record::Bad {
+            refusal: Refusal::CutShort,
+            place: at,
+        };
+    }
+    let size = u32_at(bytes, at);
+    if size < 2 {
+        return Record::Bad {
+            refusal: Refusal::WrongLength,
+            place: at,
+        };
+    }
+    if bytes.len() < at + 4 + size {
+        return Record::Bad {
+            refusal: Refusal::CutShort,
+            place: at,
+        };
+    }
+    let number = u16_at(bytes, at + 4);
+    let k = index_of(number);
+    if 62 <= k {
+        return Record::Bad {
+            refusal: Refusal::UnknownKind,
+            place: at,
+        };
+    }
+    body_at(bytes, at, k, size - 2)
+}
