@@ -1,0 +1,5 @@
+pub mod Each
+pub mod Scans
+pub mod Table
+pub mod Outcomes
+pub mod Kept
