@@ -1,0 +1,5 @@
+pub mod Partner
+pub mod Check
+pub mod Checked
+pub mod Safe
+pub mod Cases

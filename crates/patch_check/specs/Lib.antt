@@ -1,0 +1,4 @@
+pub mod Rules
+pub mod Verdict
+pub mod Check
+pub mod Reached
