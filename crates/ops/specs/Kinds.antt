@@ -12,6 +12,15 @@ use Rattle.ops.specs.declared.kinds.Kind.{Kind}
 abbrev pub kind : ℕ → ℕ → ℕ → Kind
 kind s n a = (s, n, a)
 
+abbrev pub shape : Kind → ℕ
+shape k = k .0
+
+abbrev pub need : Kind → ℕ
+need k = k .1
+
+abbrev pub after : Kind → ℕ
+after k = k .2
+
 abbrev pub kinds : List Kind
 kinds =
     -- Comment
@@ -62,19 +71,10 @@ kinds =
 unfoldable pub kindAt : ℕ → Kind
 kindAt k = getD kinds k (kind 0 0 0)
 
-abbrev pub shapeAt : ℕ → ℕ
-shapeAt k = kindAt k .0
-
-abbrev pub needAt : ℕ → ℕ
-needAt k = kindAt k .1
-
-abbrev pub afterAt : ℕ → ℕ
-afterAt k = kindAt k .2
-
 -- "Core kinds 0 to 39 ..; standard kinds 256 to 277": the row of a kind's number, 62 where no kind has it
 unfoldable pub indexOf : ℕ → ℕ
 indexOf k = cond (ltb k 40) k (cond (ltb k 256) 62 (cond (ltb k 278) (k - 216) 62))
 
 -- the lanes that a run of an op of row k asks for, where the op counts n
 unfoldable pub runNeed : ℕ → ℕ → ℕ
-runNeed k n = cond (eqb (needAt k) 1) 1 (cond (eqb (needAt k) 2) n 0)
+runNeed k n = cond (eqb (need (kindAt k)) 1) 1 (cond (eqb (need (kindAt k)) 2) n 0)
