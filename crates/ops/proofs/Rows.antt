@@ -1,0 +1,137 @@
+-- The table's columns, in 01's words of the ops: tested at each of the 62 rows by one computation. Assumes nothing.
+use mathlib.Core.Path.{_≡_, refl, _∙_, subst, sym}
+use mathlib.Core.Bool.{Bool, true, false, cond, _||_}
+use mathlib.Core.List.{List, [], _∷_}
+use Prim.Native.Nat.{ℕ, zero, suc, _+_, _<_}
+use native.Mathlib.Omega.{arith}
+use native.Mathlib.Nat.{add-zero, zero-add, add-suc, suc-add, le-of-suc-le-suc, not-suc-le-zero}
+use lib.Dec.{T, leb, eqb, eqb→eq}
+use lib.ListN.{length, getD}
+use Rattle.ops.specs.Kinds.{kind, shape, need, after, kinds, kindAt, indexOf}
+use Rattle.ops.specs.Op.{Control, Plain, Op, kindOf}
+use Rattle.ops.specs.Op.Control.{function, call, ret, while, if, else, end}
+use Rattle.ops.specs.Op.Plain.{comment, store, move, swap, locate, offset, deref, refer, cell, lane, get, put, peek, poke, alloc, free}
+use Rattle.ops.specs.Op.Op.{control, set, load, plain}
+use Rattle.ops.specs.Ops.{rows, rowAt}
+use Rattle.ops.specs.declared.kinds.Kind.{Kind}
+
+-- "Function, Call, Return, While, If, Else, End .. need 1"; "Else, like Function and Return, needs no lane when run"
+abbrev pub controlRule : Control → ℕ
+controlRule function = 3
+controlRule call = 1
+controlRule ret = 3
+controlRule while = 1
+controlRule if = 1
+controlRule else = 3
+controlRule end = 1
+
+-- "Where, Get, Put, Peek, Poke, Alloc need 1; Store, the other cell ops and the lane-only ops need n"; "other ops keep it"
+abbrev pub plainRule : Plain → Kind
+plainRule (comment bs) = kind 1 0 0
+plainRule (store n) = kind 3 2 0
+plainRule (move v) = kind 4 0 0
+plainRule (swap n) = kind 3 2 0
+plainRule locate = kind 0 1 0
+plainRule (offset v n) = kind 5 2 0
+plainRule deref = kind 0 0 0
+plainRule refer = kind 0 0 0
+plainRule (cell k n) = kind 3 2 0
+plainRule (lane k n) = kind 3 2 0
+plainRule (get m) = kind 6 1 0
+plainRule (put m) = kind 6 1 0
+plainRule peek = kind 0 1 0
+plainRule poke = kind 0 1 0
+plainRule alloc = kind 0 1 0
+plainRule free = kind 0 0 0
+
+-- "Set and Load make their own count; after Function, Call, Return, While, If, Else, End it is 1"
+abbrev pub rule : Op → Kind
+rule (control c) = kind 0 (controlRule c) 2
+rule (set k vs) = kind 2 0 1
+rule (load n) = kind 3 0 1
+rule (plain p) = plainRule p
+
+-- "kinds 268 to 274, 277"
+abbrev pub isLeftOut : ℕ → Bool
+isLeftOut k = cond (leb 52 k) (leb k 58) false || eqb k 61
+
+-- ---- a test over a list, had at each place of it
+
+abbrev both : Bool → Bool → Bool
+both true b = b
+both false b = false
+
+both-left : (a b : Bool) → T (both a b) → T a
+both-left true b t = tt
+both-left false b t = t
+
+both-right : (a b : Bool) → T (both a b) → T b
+both-right true b t = t
+both-right false b t = absurd t
+
+module _ {A : Type 0} (f : ℕ → A → Bool) (d : A) where
+  abbrev every : ℕ → List A → Bool
+  every i [] = true
+  every i (x ∷ xs) = both (f i x) (every (suc i) xs)
+
+  from : (xs : List A) (i : ℕ) → T (every i xs) → (k : ℕ) → k < length xs → T (f (i + k) (getD xs k d))
+  from [] i t k h = absurd (not-suc-le-zero h)
+  from (x ∷ xs) i t zero h = subst (λ (m : ℕ). T (f m x)) (sym (add-zero i)) (both-left (f i x) (every (suc i) xs) t)
+  from (x ∷ xs) i t (suc k) h =
+      subst (λ (m : ℕ). T (f m (getD xs k d))) (suc-add i k ∙ sym (add-suc i k))
+      (from xs (suc i) (both-right (f i x) (every (suc i) xs) t) k (le-of-suc-le-suc h))
+
+  at : (xs : List A) → T (every 0 xs) → (k : ℕ) → k < length xs → T (f k (getD xs k d))
+  at xs t k h = subst (λ (m : ℕ). T (f m (getD xs k d))) (zero-add k) (from xs 0 t k h)
+
+-- ---- the rows
+
+-- row k with entry x is left out, or has the number and the three columns of its op o
+abbrev agrees : ℕ → Op → Kind → Bool
+agrees k o x =
+    cond (isLeftOut k) (eqb (shape x) 7)
+    (both (eqb (indexOf (kindOf o)) k)
+    (both (eqb (shape x) (shape (rule o)))
+    (both (eqb (need x) (need (rule o))) (eqb (after x) (after (rule o))))))
+
+right : ℕ → Kind → Bool
+right k x = agrees k (rowAt k) x
+
+pub record Row (k : ℕ) : Type 0 where
+  pub number : indexOf (kindOf (rowAt k)) ≡ k
+  pub shaped : shape (kindAt k) ≡ shape (rule (rowAt k))
+  pub needed : need (kindAt k) ≡ need (rule (rowAt k))
+  pub known : after (kindAt k) ≡ after (rule (rowAt k))
+
+all-right : (k : ℕ) → k < 62 → T (agrees k (rowAt k) (kindAt k))
+unfolding kindAt indexOf rowAt rows right
+all-right k h = at right (kind 0 0 0) kinds tt k h
+
+clash : {P : Type 0} (b : Bool) → b ≡ false → T b → P
+clash true e t = let z : _≡_ {A = ℕ} 0 1 = cc in absurd (omega arith)
+clash false e t = absurd t
+
+row-of : (k : ℕ) (left : Bool) → eqb (shape (kindAt k)) 7 ≡ false
+    → T (cond left (eqb (shape (kindAt k)) 7)
+        (both (eqb (indexOf (kindOf (rowAt k))) k)
+        (both (eqb (shape (kindAt k)) (shape (rule (rowAt k))))
+        (both (eqb (need (kindAt k)) (need (rule (rowAt k)))) (eqb (after (kindAt k)) (after (rule (rowAt k))))))))
+    → Row k
+row-of k true l t = clash (eqb (shape (kindAt k)) 7) l t
+row-of k false l t =
+    let a = eqb (indexOf (kindOf (rowAt k))) k in
+    let b = eqb (shape (kindAt k)) (shape (rule (rowAt k))) in
+    let c = eqb (need (kindAt k)) (need (rule (rowAt k))) in
+    let d = eqb (after (kindAt k)) (after (rule (rowAt k))) in
+    let t₁ : T (both b (both c d)) = both-right a (both b (both c d)) t in
+    let t₂ : T (both c d) = both-right b (both c d) t₁ in
+    record {
+      number = eqb→eq (indexOf (kindOf (rowAt k))) k (both-left a (both b (both c d)) t);
+      shaped = eqb→eq (shape (kindAt k)) (shape (rule (rowAt k))) (both-left b (both c d) t₁);
+      needed = eqb→eq (need (kindAt k)) (need (rule (rowAt k))) (both-left c d t₂);
+      known = eqb→eq (after (kindAt k)) (after (rule (rowAt k))) (both-right c d t₂);
+    }
+
+-- each row that is not left out has its op's number and columns
+pub row-rule : (k : ℕ) → k < 62 → eqb (shape (kindAt k)) 7 ≡ false → Row k
+row-rule k h l = row-of k (isLeftOut k) l (all-right k h)
