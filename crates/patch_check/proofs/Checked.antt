@@ -16,7 +16,7 @@ use Rattle.patch_check.specs.Rules.Says.{fine, wrong, open-left}
 use Rattle.patch_check.specs.Verdict.{numberOf, answer}
 use Rattle.patch_check.specs.Check.{check}
 use Rattle.patch_check.proofs.Partner.{end-found, open-rest}
-use Rattle.patch_check.proofs.Check.{check-says}
+use Rattle.patch_check.proofs.Scanned.{check-says}
 
 which : (a b : ℕ) → (a < b) ⊎ ((a ≡ b) ⊎ (b < a))
 which a b = by (decLt a b) (decLt b a)

@@ -1,5 +1,6 @@
 pub mod Partner
-pub mod Check
+pub mod Scanned
 pub mod Checked
+pub mod Turns
 pub mod Safe
 pub mod Cases
