@@ -4,5 +4,6 @@ pub mod Checked
 pub mod Turns
 pub mod Seen
 pub mod Loaded
+pub mod File
 pub mod Safe
 pub mod Cases
