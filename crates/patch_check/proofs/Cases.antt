@@ -78,10 +78,10 @@ cases =
     -- nothing at all; case 9 of 01
     ∷ case [] (0 ∷ 0 ∷ 0 ∷ 0 ∷ 0 ∷ [])
     ∷ case
-      (set ints (1 ∷ []) ∷ control call ∷ set ints (0 ∷ []) ∷ control call ∷ control ret
-      ∷ control function ∷ set ints (65 ∷ []) ∷ plain (put Char) ∷ control ret ∷ control end
-      ∷ control function ∷ set ints (66 ∷ []) ∷ plain (put Char) ∷ control ret ∷ control end ∷ [])
-      (0 ∷ 15 ∷ 0 ∷ 11 ∷ 5 ∷ [])
+    (set ints (1 ∷ []) ∷ control call ∷ set ints (0 ∷ []) ∷ control call ∷ control ret
+    ∷ control function ∷ set ints (65 ∷ []) ∷ plain (put Char) ∷ control ret ∷ control end
+    ∷ control function ∷ set ints (66 ∷ []) ∷ plain (put Char) ∷ control ret ∷ control end ∷ [])
+    (0 ∷ 15 ∷ 0 ∷ 11 ∷ 5 ∷ [])
     ∷ []
 
 all : map tried cases ≡ map (λ c. c .seen) cases

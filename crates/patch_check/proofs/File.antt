@@ -33,15 +33,17 @@ module _ (s : List ℕ) where
   passes-by true e =
       let os = map (opAt s) (patchOf s .items) in
       let is : opsOf s ≡ ops os = ops-are s (eqb-true (patchOf s .number) 0 e) in
-      let q : checkOf s ≡ check os = check-is (ops os) is in
-      (λ z. record { patch = os; is = is; rules = passes os .0 (ap numberOf (sym q) ∙ z) },
-      λ k. ap numberOf q ∙ passes os .1 (subst (λ (x : List Op). KeepsRules x) (one-patch (k .patch) os (sym (k .is) ∙ is)) (k .rules)))
+      let q : checkOf s ≡ check os = check-is (ops os) is in (
+        λ z. record { patch = os; is = is; rules = passes os .0 (ap numberOf (sym q) ∙ z) },
+        λ k. ap numberOf q ∙ passes os .1 (subst (λ (x : List Op). KeepsRules x) (one-patch (k .patch) os (sym (k .is) ∙ is)) (k .rules)),
+      )
   passes-by false e =
       let n = patchOf s .number in
       let bad : n ≡ 0 → ⊥ = eqb-false n 0 e in
-      let is : opsOf s ≡ refused n (patchOf s .place) = refused-are s bad in
-      (λ z. absurd (bad (ap numberOf (sym (check-is (refused n (patchOf s .place)) is)) ∙ z)),
-      λ k. let w : ops (k .patch) ≡ refused n (patchOf s .place) = sym (k .is) ∙ is in clash (cc))
+      let is : opsOf s ≡ refused n (patchOf s .place) = refused-are s bad in (
+        λ z. absurd (bad (ap numberOf (sym (check-is (refused n (patchOf s .place)) is)) ∙ z)),
+        λ k. let w : ops (k .patch) ≡ refused n (patchOf s .place) = sym (k .is) ∙ is in clash (cc),
+      )
 
   -- for every byte string: an answer that meets the contract of `check` has number 0 exactly where the file is a patch that keeps the rules
   pub check-passes : (r : Verdict) → r ≡ checkOf s → (numberOf r ≡ 0) ↔ KeepsFile s

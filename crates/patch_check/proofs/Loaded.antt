@@ -1,21 +1,20 @@
 -- What a caller of `load` knows of its answer and of the arrays, and the check's answer to a file by them. Assumes nothing.
-use Prim.Native.Nat.{ℕ, _+_, _≤_}
+use Prim.Native.Nat.{ℕ, _≤_}
 use native.Mathlib.Omega.{arith}
 use borrow.Author.Tests.{eq-eqb, ne-eqb}
-use mathlib.Core.Path.{_≡_, refl, ap, sym, _∙_}
-use mathlib.Core.List.{List, _++_, map}
+use mathlib.Core.Path.{_≡_, ap, sym, _∙_}
+use mathlib.Core.List.{List, map}
 use lib.ListN.{length, take, drop, length-map, length-append}
 use lib.Seq.{take-at}
 use Rattle.ops.specs.Storage.{fill}
 use Rattle.ops.specs.Patch.{Item, kindIn, countIn, patchOf, readOf}
-use Rattle.ops.specs.Ops.{opAt, opsOf}
 use Rattle.ops.specs.declared.reader.Read.{Read}
 use Rattle.ops.proofs.Items.{items-are, few-items}
 use Rattle.ops.proofs.Meaning.{ops-are, refused-are}
 use Rattle.machine_model.specs.State.{lanes}
 use Rattle.patch_check.specs.Check.{check}
 use Rattle.patch_check.specs.Rows.{rowScan}
-use Rattle.patch_check.specs.File.{checkPatch, checkOf}
+use Rattle.patch_check.specs.File.{checkOf}
 use Rattle.patch_check.specs.declared.verdict.Verdict.{Verdict}
 use Rattle.patch_check.specs.declared.verdict.Verdict.the-variants.{BadFile}
 use Rattle.patch_check.proofs.Seen.{same-scan}

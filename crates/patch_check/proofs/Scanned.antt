@@ -1,5 +1,5 @@
 -- The check's answer is one that the rules allow: the first place that breaks one, the earliest bracket never closed, or 0. Assumes nothing.
-use Prim.Native.Nat.{ℕ, zero, suc, _+_, _-_, _≤_, _<_, suc-le-suc}
+use Prim.Native.Nat.{ℕ, zero, suc, _+_, _≤_, _<_, suc-le-suc}
 use native.Mathlib.Nat.{not-suc-le-zero, le-of-suc-le-suc, add-zero}
 use native.Mathlib.Omega.{arith}
 use borrow.Author.Tests.{ltb-true, ltb-false}
@@ -15,7 +15,7 @@ use Rattle.ops.specs.Op.Mark.{up, down, mid, flat}
 use Rattle.machine_model.specs.State.{lanes}
 use Rattle.machine_model.specs.Scan.{opAt, marks, toEnd}
 use Rattle.machine_model.proofs.Scans.{clash, length-marks, marks-at}
-use Rattle.patch_check.specs.Rules.{opens, closes, asks, leaves, known, Open, KeepsRules, Breaks, NeverClosed, Says}
+use Rattle.patch_check.specs.Rules.{opens, closes, asks, leaves, known, Open, Breaks, NeverClosed, Says}
 use Rattle.patch_check.specs.Rules.Breaks.{no-end, no-else, few}
 use Rattle.patch_check.specs.Rules.Says.{fine, wrong, open-left}
 use Rattle.patch_check.specs.Verdict.{answer}

@@ -1,8 +1,8 @@
 -- The check by rows and counts is the check of the ops that the rows and counts stand for. Assumes nothing.
-use Prim.Native.Nat.{ℕ, zero, suc, _+_, _-_, _<_, _≤_}
+use Prim.Native.Nat.{ℕ, zero, suc, _+_, _-_, _<_}
 use native.Mathlib.Nat.{not-suc-le-zero}
 use native.Mathlib.Omega.{arith}
-use borrow.Author.Tests.{le-ltb, eqb-true, eqb-false, eq-eqb, ne-eqb}
+use borrow.Author.Tests.{le-ltb, ne-eqb}
 use mathlib.Core.Path.{_≡_, refl, ap, sym, _∙_, subst}
 use mathlib.Core.Bool.{Bool, true, false, cond, _&&_}
 use mathlib.Core.List.{List, [], _∷_, map}
@@ -13,7 +13,7 @@ use Rattle.ops.specs.Op.Mark.{up, down, mid, flat}
 use Rattle.ops.specs.Op.Control.{function, call, ret, while, if, else, end}
 use Rattle.ops.specs.Op.Plain.{comment, store, move, swap, locate, offset, deref, refer, cell, lane, get, put, peek, poke, alloc, free}
 use Rattle.ops.specs.Op.Op.{control, set, load, plain}
-use Rattle.ops.specs.Kinds.{need, after, kindAt}
+use Rattle.ops.specs.Kinds.{need, after}
 use Rattle.ops.specs.Patch.{Item, kindIn, countIn}
 use Rattle.ops.specs.Ops.{rows, rowAt, plainWith, opWith, opAt, plainCount, opCount}
 use Rattle.ops.proofs.Whole.{Tells, tells}
@@ -23,8 +23,7 @@ use Rattle.ops.proofs.Meaning.{means}
 use Rattle.patch_check.specs.Rules.{opens, closes, asks, leaves}
 use Rattle.patch_check.specs.Check.{strayEnd, strayElse, depth, from, ended, scan}
 use Rattle.patch_check.specs.Rows.{opensOf, endsOf, elsesOf, needOf, afterOf, fromOf, rowScan}
-use Rattle.patch_check.specs.declared.verdict.Verdict.{Verdict}
-use Rattle.patch_check.specs.declared.verdict.Verdict.the-variants.{Passed, NoOpenEnd, NoOpenElse, FewLanes, NeverClosed}
+use Rattle.patch_check.specs.declared.verdict.Verdict.the-variants.{Passed, NeverClosed}
 
 -- ---- brackets: tested at each of the 62 rows by one computation
 
@@ -233,5 +232,5 @@ module _ (s : List ℕ) where
       let u : ltb d (elsesOf k) ≡ strayElse (mark o) d = ap (ltb d) (z .bracket .dividing) ∙ stray-elses (mark o) d in
       let v : ltb m (needOf k n) ≡ ltb m (asks o) = ap (ltb m) (z .needing) in
       let a : d + opensOf k - endsOf k ≡ depth (mark o) d =
-          ap (λ (x : ℕ). d + x - endsOf k) (z .bracket .opening) ∙ ap (λ (x : ℕ). d + opens (mark o ∷ []) - x) (z .bracket .closing) ∙ depths (mark o) d in
+      ap (λ (x : ℕ). d + x - endsOf k) (z .bracket .opening) ∙ ap (λ (x : ℕ). d + opens (mark o ∷ []) - x) (z .bracket .closing) ∙ depths (mark o) d in
       rw (t, u, v, a, z .leaving m, froms d p f, same-scan is (e .1) (from d p f) (suc p) (leaves o m) (depth (mark o) d))

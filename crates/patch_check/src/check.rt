@@ -5,15 +5,15 @@ ghost use lib.ListN.{length};
 ghost use Rattle.machine_model.specs.State.{lanes};
 ghost use Rattle.patch_check.specs.Rows.{fromOf, rowScan};
 ghost use Rattle.patch_check.specs.File.{checkOf};
-use ops::bytes::wide;
-use ops::limits::LANES;
-use ops::reader::load;
 use crate::rows::after_of;
 use crate::rows::elses_of;
 use crate::rows::ends_of;
 use crate::rows::need_of;
 use crate::rows::opens_of;
 use crate::verdict::Verdict;
+use ops::bytes::wide;
+use ops::limits::LANES;
+use ops::reader::load;
 
 // A count as it is stored.
 pub fn wide_count(n: u16) -> usize
