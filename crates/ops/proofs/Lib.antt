@@ -4,3 +4,4 @@ pub mod Items
 pub mod Rows
 pub mod Meaning
 pub mod Unique
+pub mod Cases

@@ -113,9 +113,9 @@ clash false e t = absurd t
 
 row-of : (k : ℕ) (left : Bool) → eqb (shape (kindAt k)) 7 ≡ false
     → T (cond left (eqb (shape (kindAt k)) 7)
-        (both (eqb (indexOf (kindOf (rowAt k))) k)
-        (both (eqb (shape (kindAt k)) (shape (rule (rowAt k))))
-        (both (eqb (need (kindAt k)) (need (rule (rowAt k)))) (eqb (after (kindAt k)) (after (rule (rowAt k))))))))
+    (both (eqb (indexOf (kindOf (rowAt k))) k)
+    (both (eqb (shape (kindAt k)) (shape (rule (rowAt k))))
+    (both (eqb (need (kindAt k)) (need (rule (rowAt k)))) (eqb (after (kindAt k)) (after (rule (rowAt k))))))))
     → Row k
 row-of k true l t = clash (eqb (shape (kindAt k)) 7) l t
 row-of k false l t =
