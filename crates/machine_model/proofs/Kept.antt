@@ -1,12 +1,12 @@
 -- A step leads from a well-formed state to a well-formed state, and so does a run; the fresh state is one. Assumes nothing.
-use Prim.Native.Nat.{ℕ, zero, suc, _+_, _-_, _*_, _/_, _≤_, _<_, min}
+use Prim.Native.Nat.{ℕ, zero, suc, _+_, _-_, _*_, _/_, _≤_, _<_}
 use native.Mathlib.Omega.{arith}
 use borrow.Author.Tests.{ltb-true, ltb-false, leb-false}
-use mathlib.Core.Path.{_≡_, refl, ap, sym, _∙_, subst}
+use mathlib.Core.Path.{_≡_, refl, ap, subst}
 use mathlib.Core.Bool.{Bool, true, false, cond, _||_}
 use mathlib.Core.List.{List, [], _∷_, _++_, reverse}
 use mathlib.Core.Option.{Option, none, some}
-use lib.Dec.{leb, ltb, eqb}
+use lib.Dec.{leb, ltb}
 use lib.ListN.{length, take, drop, getD, length-take, length-drop, length-append, length-set, length-replicate}
 use lib.ListN
 use Rattle.lanes.specs.Int.{intAdd}
@@ -20,9 +20,9 @@ use Rattle.ops.specs.declared.op.Mode.the-variants.{Char, Int, Other}
 use Rattle.testing_device.specs.declared.device.Got.{Got}
 use Rattle.testing_device.specs.declared.device.Got.the-variants.{Value, Empty}
 use Rattle.testing_device.specs.Device.{getOf, putOf, leading, intFrom, charFrom, isSpace, isDigit}
-use Rattle.machine_model.specs.State.{State, Given, fresh, mostMarks, lanes, depth, farthest, longest, lane0, goTo, on, withTable, withReg}
+use Rattle.machine_model.specs.State.{State, Given, fresh, lanes, depth, farthest, longest, lane0, goTo, on, withTable, withReg}
 use Rattle.machine_model.specs.Scan.{opAt, marks, functions, toOpen, kth}
-use Rattle.machine_model.specs.Step.{Outcome, enter, jump, endOf, elseOf, called, found, back, again, turn, minus, cover, cells, grown, derefTo, referTo, moveBy, gotten, write, peekAt, act, exec, op, step}
+use Rattle.machine_model.specs.Step.{enter, jump, endOf, elseOf, called, found, back, again, turn, minus, cover, cells, grown, derefTo, referTo, moveBy, gotten, write, peekAt, act, exec, op, step}
 use Rattle.machine_model.specs.Step.Outcome.{next}
 use Rattle.machine_model.specs.Run.{run}
 use Rattle.machine_model.specs.Formed.{Each, Rising, Marked, Formed}
@@ -315,7 +315,7 @@ module _ (g : Given) (lim : Limited (g .ops)) where
     exec-in (set k vs) is h = formed _ here places (with-reg vs h)
     exec-in (plain p) is h = act-in p h
 
-  step-leads : (s : State) → Formed g s → Leads (Formed g) (step g s)
+  pub step-leads : (s : State) → Formed g s → Leads (Formed g) (step g s)
   unfolding step op
   step-leads s f =
       pick-leads (Formed g) _ _ _ (λ _. ended)

@@ -1,5 +1,9 @@
 pub mod Each
 pub mod Scans
+pub mod Stacks
 pub mod Table
 pub mod Outcomes
 pub mod Kept
+pub mod WordsKept
+pub mod Refused
+pub mod Cases

@@ -1,11 +1,11 @@
 -- A property of the state that a step gives, through a step's tests, and through a run where every step keeps it. Assumes nothing.
 use Prim.Native.Nat.{ℕ, zero, suc}
-use mathlib.Core.Path.{_≡_, refl, ap, sym, _∙_, subst}
+use mathlib.Core.Path.{_≡_, refl, subst}
 use mathlib.Core.Bool.{Bool, true, false, _||_}
 use Rattle.machine_model.specs.State.{State, Given}
 use Rattle.machine_model.specs.Step.{Outcome, bar, pick, step}
 use Rattle.machine_model.specs.Step.Outcome.{finished, refused, next}
-use Rattle.machine_model.specs.Run.{Answer, answer, drive, run}
+use Rattle.machine_model.specs.Run.{drive, run}
 use Rattle.machine_model.proofs.Scans.{clash}
 
 pub or-right : (a b : Bool) → (a || b) ≡ false → b ≡ false
@@ -47,3 +47,8 @@ module _ (P : State → Type 0) where
     pub run-keeps : (b : ℕ) (s : State) → P s → P ((run g b s) .state)
     unfolding run
     run-keeps b s p = drive-keeps b 0 s (step g s) p (keeps s p)
+
+pub both-lead : (P Q : State → Type 0) (o : Outcome) → Leads P o → Leads Q o → Leads (λ s. P s × Q s) o
+both-lead P Q finished p q = ended
+both-lead P Q (refused n) p q = stopped
+both-lead P Q (next t) p q = goes (next-leads P (next t) t p refl, next-leads Q (next t) t q refl)

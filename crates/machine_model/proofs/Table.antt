@@ -1,16 +1,15 @@
 -- The function table: entering a place keeps it rising, and a rising table of marks is no longer than there are marks. Assumes nothing.
-use Prim.Native.Nat.{ℕ, zero, suc, _+_, _-_, _≤_, _<_}
+use Prim.Native.Nat.{ℕ, suc, _-_, _≤_, _<_}
 use native.Mathlib.Nat.{sub-zero}
 use native.Mathlib.Omega.{arith}
 use borrow.Author.Tests.{ltb-true, ltb-false, eqb-true, eqb-false}
-use mathlib.Core.Path.{_≡_, refl, ap, sym, _∙_, subst}
+use mathlib.Core.Path.{_≡_, refl, ap, sym, _∙_}
 use mathlib.Core.Bool.{Bool, true, false, cond}
 use mathlib.Core.List.{List, [], _∷_}
 use lib.Dec.{ltb, eqb}
 use lib.ListN.{length, getD}
-use Rattle.ops.specs.Op.{Op, isFunction}
 use Rattle.machine_model.specs.State.{Given}
-use Rattle.machine_model.specs.Scan.{opAt, functions}
+use Rattle.machine_model.specs.Scan.{functions}
 use Rattle.machine_model.specs.Step.{enter}
 use Rattle.machine_model.specs.Formed.{Each, Rising, Marked}
 use Rattle.machine_model.specs.Limited.{count}

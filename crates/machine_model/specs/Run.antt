@@ -16,7 +16,7 @@ abbrev pub answer : ℕ → ℕ → State → Answer
 answer n k s = record { number = n; steps = k; place = s .at; state = s }
 
 -- b steps may still be made, k are made, and o is what a step from s gives: "halted or at the end gives 0; steps equal to budget gives 50",
--- before any refusal. "Refused at a step, earlier steps stand"
+-- before any refusal; "refused at a step, earlier steps stand"
 unfoldable pub drive : Given → ℕ → ℕ → State → Outcome → Answer
 drive g zero k s finished = answer 0 k s
 drive g zero k s (refused n) = answer 50 k s

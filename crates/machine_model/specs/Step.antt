@@ -195,7 +195,7 @@ act g (comment bs) s = next (on s)
 unfoldable pub exec : Given → Op → State → Outcome
 unfolding turn act
 exec g (control c) s = turn g c s
--- "Load makes the register n lanes. Order 23 (only if n > 0)"
+-- "Load makes the register n lanes. Order 21 (Store), 23 (only if n > 0)"
 exec g (load n) s =
     bar (beyond (s .pointer) n (length (s .tape))) 23
     (next (on (withCounted (withReg s (cells s n)) (cover (s .pointer + n) (s .counted)))))

@@ -1,0 +1,179 @@
+-- Runs that the table of 01-scope.md lacks, computed and compared as one list. Assumes nothing.
+use Prim.Native.Nat.{ℕ, _-_, _^_}
+use mathlib.Core.Path.{_≡_, refl}
+use mathlib.Core.List.{List, [], _∷_, _++_, map}
+use Rattle.lanes.specs.declared.lane.CellOp.the-variants.{Add}
+use Rattle.lanes.specs.declared.lane.LaneOp.the-variants.{Dec}
+use Rattle.ops.specs.declared.op.Mode.the-variants.{Char, Int, Other}
+use Rattle.ops.specs.Op.{Op}
+use Rattle.ops.specs.Op.Control.{function, call, ret, while, if, else, end}
+use Rattle.ops.specs.Op.Plain.{store, move, locate, offset, deref, refer, cell, lane, get, put, peek, poke, alloc}
+use Rattle.ops.specs.Op.Sort.{ints}
+use Rattle.ops.specs.Op.Op.{control, set, load, plain}
+use Rattle.machine_model.specs.State.{fresh, withTape, lane0}
+use Rattle.machine_model.specs.Run.{Answer, run}
+
+-- a run from the fresh state: the lent tape, the room for outputs and the budget, the ops, and what is seen of the answer: number, steps and
+-- place, then lane 0, pointer, counted length and outputs
+record Case : Type 0 where
+  tape : List ℕ
+  room : ℕ
+  budget : ℕ
+  ops : List Op
+  seen : List ℕ
+
+-- four cells of tape, room for four outputs, and a budget that suffices
+ran : List Op → List ℕ → Case
+ran os l = record { tape = 0 ∷ 0 ∷ 0 ∷ 0 ∷ []; room = 4; budget = 100_000; ops = os; seen = l }
+
+-- the same with a budget
+within : ℕ → List Op → List ℕ → Case
+within b os l = record { tape = 0 ∷ 0 ∷ 0 ∷ 0 ∷ []; room = 4; budget = b; ops = os; seen = l }
+
+-- the same over one lent cell, with no room for outputs
+upon : ℕ → List Op → List ℕ → Case
+upon v os l = record { tape = v ∷ []; room = 0; budget = 100_000; ops = os; seen = l }
+
+show : Answer → List ℕ
+show a = a .number ∷ a .steps ∷ a .place ∷ lane0 (a .state) ∷ a .state .pointer ∷ a .state .counted ∷ a .state .outs
+
+tried : Case → List ℕ
+unfolding show run fresh
+tried c = show (run (record { ops = c .ops; input = []; room = c .room }) (c .budget) (withTape (fresh 0) (c .tape)))
+
+one : ℕ → Op
+one v = set ints (v ∷ [])
+
+out : Op
+out = plain (put Char)
+
+minus : ℕ → ℕ
+minus n = 2 ^ 64 - n
+
+-- ---- brackets
+
+-- a While that loops and leaves, its End met with 2, 1 and 0 in the lane: not tested again ("it enters the body")
+loops : List Case
+unfolding ran one out
+loops =
+    ran (one 3 ∷ control while ∷ plain (lane Dec 1) ∷ out ∷ control end ∷ []) (0 ∷ 11 ∷ 5 ∷ 0 ∷ 0 ∷ 0 ∷ 2 ∷ 1 ∷ 0 ∷ [])
+    ∷ ran (one 0 ∷ control while ∷ out ∷ control end ∷ []) (0 ∷ 2 ∷ 4 ∷ 0 ∷ 0 ∷ 0 ∷ [])
+    ∷ ran (one 0 ∷ control while ∷ control while ∷ control end ∷ out ∷ control end ∷ []) (0 ∷ 2 ∷ 6 ∷ 0 ∷ 0 ∷ 0 ∷ [])
+    ∷ []
+
+-- an If that takes each side, that has no Else, and that passes the Else of another
+ifs : List Case
+unfolding ran one out
+ifs =
+    ran (one 1 ∷ control if ∷ one 65 ∷ out ∷ control else ∷ one 66 ∷ out ∷ control end ∷ []) (0 ∷ 5 ∷ 8 ∷ 65 ∷ 0 ∷ 0 ∷ 65 ∷ [])
+    ∷ ran (one 0 ∷ control if ∷ one 65 ∷ out ∷ control else ∷ one 66 ∷ out ∷ control end ∷ []) (0 ∷ 5 ∷ 8 ∷ 66 ∷ 0 ∷ 0 ∷ 66 ∷ [])
+    ∷ ran (one 0 ∷ control if ∷ out ∷ control end ∷ []) (0 ∷ 2 ∷ 4 ∷ 0 ∷ 0 ∷ 0 ∷ [])
+    ∷ ran (one 0 ∷ control if ∷ control if ∷ control else ∷ control end ∷ control else ∷ out ∷ control end ∷ []) (0 ∷ 4 ∷ 8 ∷ 0 ∷ 0 ∷ 0 ∷ 0 ∷ [])
+    ∷ []
+
+-- an Else in no bracket passes what follows, brackets too; "Else in a While looping: it leaves the loop"
+elses : List Case
+unfolding ran one out
+elses =
+    ran (control else ∷ control if ∷ control end ∷ out ∷ control end ∷ []) (0 ∷ 1 ∷ 5 ∷ 0 ∷ 0 ∷ 0 ∷ [])
+    ∷ ran (one 65 ∷ control while ∷ out ∷ control else ∷ out ∷ control end ∷ out ∷ []) (0 ∷ 5 ∷ 7 ∷ 65 ∷ 0 ∷ 0 ∷ 65 ∷ 65 ∷ [])
+    ∷ []
+
+-- ---- functions
+
+-- a call and its return; "Function's End returning: it falls through"; the second mark is called and entered, then the first is entered
+-- before it, so that 0 calls the first
+functions : List Case
+unfolding ran one out
+functions =
+    ran (one 0 ∷ control call ∷ out ∷ control ret ∷ control function ∷ one 65 ∷ control ret ∷ control end ∷ []) (0 ∷ 6 ∷ 4 ∷ 65 ∷ 0 ∷ 0 ∷ 65 ∷ [])
+    ∷ ran (one 0 ∷ control call ∷ control ret ∷ control function ∷ one 65 ∷ out ∷ control end ∷ one 66 ∷ out ∷ []) (0 ∷ 7 ∷ 9 ∷ 66 ∷ 0 ∷ 0 ∷ 65 ∷ 66 ∷ [])
+    ∷ ran
+    (one 1 ∷ control call
+    ∷ control function ∷ one 65 ∷ out ∷ control ret ∷ control end
+    ∷ one 0 ∷ control call ∷ control ret
+    ∷ control function ∷ one 66 ∷ out ∷ control ret ∷ control end ∷ [])
+    (0 ∷ 12 ∷ 10 ∷ 65 ∷ 0 ∷ 0 ∷ 66 ∷ 65 ∷ [])
+    ∷ []
+
+-- ---- the tape
+
+-- growth by Load, Store and Deref, at the last cell that needs none, at the next and by several blocks; Deref and Refer; Alloc
+tapes : List Case
+unfolding ran one out
+tapes =
+    ran (load 0 ∷ []) (0 ∷ 1 ∷ 1 ∷ 0 ∷ 0 ∷ 100_000 ∷ [])
+    ∷ ran (plain (store 4) ∷ []) (0 ∷ 1 ∷ 1 ∷ 0 ∷ 0 ∷ 100_000 ∷ [])
+    ∷ ran (plain deref ∷ []) (0 ∷ 1 ∷ 1 ∷ 0 ∷ 0 ∷ 100_000 ∷ [])
+    ∷ ran (load 0 ∷ plain (move 99_999) ∷ load 0 ∷ []) (0 ∷ 3 ∷ 3 ∷ 0 ∷ 99_999 ∷ 100_000 ∷ [])
+    ∷ ran (load 0 ∷ plain (move 100_000) ∷ load 0 ∷ []) (0 ∷ 3 ∷ 3 ∷ 0 ∷ 100_000 ∷ 200_000 ∷ [])
+    ∷ ran (plain (move 250_000) ∷ plain (store 0) ∷ []) (0 ∷ 2 ∷ 2 ∷ 0 ∷ 250_000 ∷ 300_000 ∷ [])
+    ∷ ran (one 3 ∷ plain (store 1) ∷ plain (offset 4 1) ∷ plain (cell Add 1) ∷ plain deref ∷ plain (store 1) ∷ plain refer ∷ load 4 ∷ out ∷ plain (move 3) ∷ load 1 ∷ out ∷ [])
+    (0 ∷ 12 ∷ 12 ∷ 10 ∷ 3 ∷ 100_000 ∷ 3 ∷ 10 ∷ [])
+    ∷ ran (one 5 ∷ plain alloc ∷ []) (0 ∷ 2 ∷ 2 ∷ 29_999 ∷ 0 ∷ 30_005 ∷ [])
+    ∷ ran (one 1_999_970_000 ∷ plain alloc ∷ plain (move 1_000_000_000) ∷ []) (0 ∷ 3 ∷ 3 ∷ 29_999 ∷ 1_000_000_000 ∷ 2_000_000_000 ∷ [])
+    ∷ ran (plain (move 3) ∷ plain (move (minus 2)) ∷ plain locate ∷ []) (0 ∷ 3 ∷ 3 ∷ 1 ∷ 1 ∷ 0 ∷ [])
+    ∷ []
+
+-- ---- in and out
+
+-- integers put as characters; the channel gives back the oldest first, also where 256 wait
+talks : List Case
+unfolding ran one out minus
+talks =
+    ran (one (minus 42) ∷ plain (put Int) ∷ plain (put Other) ∷ []) (0 ∷ 3 ∷ 3 ∷ minus 42 ∷ 0 ∷ 0 ∷ 45 ∷ 52 ∷ 50 ∷ [])
+    ∷ ran (one 0 ∷ plain (put Int) ∷ []) (0 ∷ 2 ∷ 2 ∷ 0 ∷ 0 ∷ 0 ∷ 48 ∷ [])
+    ∷ ran (one 7 ∷ plain poke ∷ one 8 ∷ plain poke ∷ plain peek ∷ out ∷ plain peek ∷ out ∷ plain poke ∷ plain peek ∷ []) (0 ∷ 10 ∷ 10 ∷ 8 ∷ 0 ∷ 0 ∷ 7 ∷ 8 ∷ [])
+    ∷ ran (one 256 ∷ control while ∷ plain poke ∷ plain (lane Dec 1) ∷ control end ∷ plain peek ∷ plain poke ∷ plain peek ∷ []) (0 ∷ 773 ∷ 8 ∷ 255 ∷ 0 ∷ 0 ∷ [])
+    ∷ []
+
+-- ---- the budget: "halted or at the end gives 0; steps equal to budget gives 50", before any refusal
+budgets : List Case
+unfolding within one out
+budgets =
+    within 0 [] (0 ∷ 0 ∷ 0 ∷ 0 ∷ 0 ∷ 0 ∷ [])
+    ∷ within 2 (one 1 ∷ out ∷ []) (0 ∷ 2 ∷ 2 ∷ 1 ∷ 0 ∷ 0 ∷ 1 ∷ [])
+    ∷ within 1 (one 1 ∷ out ∷ []) (50 ∷ 1 ∷ 1 ∷ 1 ∷ 0 ∷ 0 ∷ [])
+    ∷ within 1 (control ret ∷ out ∷ []) (0 ∷ 1 ∷ 1 ∷ 0 ∷ 0 ∷ 0 ∷ [])
+    ∷ within 0 (plain refer ∷ []) (50 ∷ 0 ∷ 0 ∷ 0 ∷ 0 ∷ 0 ∷ [])
+    ∷ []
+
+-- ---- every refusal of a step, with its place; earlier steps stand, and the refused one leaves nothing
+refusals : List Case
+unfolding ran upon one out minus
+refusals =
+    ran (one 0 ∷ control while ∷ []) (20 ∷ 1 ∷ 1 ∷ 0 ∷ 0 ∷ 0 ∷ [])
+    ∷ ran (one 0 ∷ control if ∷ control if ∷ control end ∷ []) (20 ∷ 1 ∷ 1 ∷ 0 ∷ 0 ∷ 0 ∷ [])
+    ∷ ran (control else ∷ []) (20 ∷ 0 ∷ 0 ∷ 0 ∷ 0 ∷ 0 ∷ [])
+    ∷ ran (control function ∷ []) (20 ∷ 0 ∷ 0 ∷ 0 ∷ 0 ∷ 0 ∷ [])
+    ∷ ran (load 0 ∷ control end ∷ []) (21 ∷ 1 ∷ 1 ∷ 0 ∷ 0 ∷ 100_000 ∷ [])
+    ∷ ran (plain (cell Add 1) ∷ []) (22 ∷ 0 ∷ 0 ∷ 0 ∷ 0 ∷ 0 ∷ [])
+    ∷ ran (load 0 ∷ set ints (1 ∷ 2 ∷ []) ∷ plain (move 3) ∷ plain (cell Add 2) ∷ []) (23 ∷ 3 ∷ 3 ∷ 1 ∷ 3 ∷ 100_000 ∷ [])
+    ∷ ran (plain (store 5) ∷ []) (23 ∷ 0 ∷ 0 ∷ 0 ∷ 0 ∷ 0 ∷ [])
+    ∷ ran (load 5 ∷ []) (23 ∷ 0 ∷ 0 ∷ 0 ∷ 0 ∷ 0 ∷ [])
+    ∷ ran (plain (move 4) ∷ plain deref ∷ []) (23 ∷ 1 ∷ 1 ∷ 0 ∷ 4 ∷ 0 ∷ [])
+    ∷ ran (plain (move 2) ∷ plain (move (minus 3)) ∷ []) (24 ∷ 1 ∷ 1 ∷ 0 ∷ 2 ∷ 0 ∷ [])
+    ∷ ran (plain (move 1_000_000_000) ∷ plain (move 1) ∷ []) (25 ∷ 1 ∷ 1 ∷ 0 ∷ 1_000_000_000 ∷ 0 ∷ [])
+    ∷ upon 1_000_000_001 (plain deref ∷ []) (25 ∷ 0 ∷ 0 ∷ 0 ∷ 0 ∷ 0 ∷ [])
+    ∷ upon (minus 1) (plain deref ∷ []) (26 ∷ 0 ∷ 0 ∷ 0 ∷ 0 ∷ 0 ∷ [])
+    ∷ ran (plain deref ∷ plain refer ∷ plain refer ∷ []) (27 ∷ 2 ∷ 2 ∷ 0 ∷ 0 ∷ 100_000 ∷ [])
+    ∷ ran (one (minus 1) ∷ control call ∷ []) (28 ∷ 1 ∷ 1 ∷ minus 1 ∷ 0 ∷ 0 ∷ [])
+    ∷ ran (one 1 ∷ control call ∷ control function ∷ control end ∷ []) (29 ∷ 1 ∷ 1 ∷ 1 ∷ 0 ∷ 0 ∷ [])
+    ∷ ran (one (minus 1) ∷ plain alloc ∷ []) (30 ∷ 1 ∷ 1 ∷ minus 1 ∷ 0 ∷ 0 ∷ [])
+    ∷ ran (one 1_999_970_001 ∷ plain alloc ∷ []) (30 ∷ 1 ∷ 1 ∷ 1_999_970_001 ∷ 0 ∷ 0 ∷ [])
+    ∷ ran (control call ∷ control function ∷ control call ∷ control end ∷ []) (32 ∷ 256 ∷ 2 ∷ 0 ∷ 0 ∷ 0 ∷ [])
+    ∷ ran (one 1 ∷ control while ∷ plain deref ∷ control end ∷ []) (32 ∷ 514 ∷ 2 ∷ 1 ∷ 0 ∷ 100_000 ∷ [])
+    ∷ ran (plain peek ∷ []) (33 ∷ 0 ∷ 0 ∷ 0 ∷ 0 ∷ 0 ∷ [])
+    ∷ ran (one 1 ∷ control while ∷ plain poke ∷ control end ∷ []) (34 ∷ 514 ∷ 2 ∷ 1 ∷ 0 ∷ 0 ∷ [])
+    ∷ ran (plain (get Char) ∷ []) (35 ∷ 0 ∷ 0 ∷ 0 ∷ 0 ∷ 0 ∷ [])
+    ∷ ran (one 12_345 ∷ plain (put Int) ∷ []) (36 ∷ 1 ∷ 1 ∷ 12_345 ∷ 0 ∷ 0 ∷ [])
+    ∷ upon 0 (plain (put Other) ∷ out ∷ []) (36 ∷ 1 ∷ 1 ∷ 0 ∷ 0 ∷ 0 ∷ [])
+    ∷ []
+
+cases : List Case
+unfolding loops ifs elses functions tapes talks budgets refusals
+cases = loops ++ ifs ++ elses ++ functions ++ tapes ++ talks ++ budgets ++ refusals
+
+all : map tried cases ≡ map (λ c. c .seen) cases
+unfolding tried cases
+all = refl
