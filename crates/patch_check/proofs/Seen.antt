@@ -1,0 +1,236 @@
+-- The check by rows and counts is the check of the ops that the rows and counts stand for. Assumes nothing.
+use Prim.Native.Nat.{ℕ, zero, suc, _+_, _-_, _<_}
+use native.Mathlib.Nat.{not-suc-le-zero}
+use native.Mathlib.Omega.{arith}
+use borrow.Author.Tests.{le-ltb, ne-eqb}
+use mathlib.Core.Path.{_≡_, refl, ap, sym, _∙_, subst}
+use mathlib.Core.Bool.{Bool, true, false, cond, _&&_}
+use mathlib.Core.List.{List, [], _∷_, map}
+use native.Mathlib.Decide.{decLt}
+use lib.Dec.{T, ltb, eqb, eqb→eq}
+use Rattle.ops.specs.Op.{Op, Control, Plain, Mark, mark}
+use Rattle.ops.specs.Op.Mark.{up, down, mid, flat}
+use Rattle.ops.specs.Op.Control.{function, call, ret, while, if, else, end}
+use Rattle.ops.specs.Op.Plain.{comment, store, move, swap, locate, offset, deref, refer, cell, lane, get, put, peek, poke, alloc, free}
+use Rattle.ops.specs.Op.Op.{control, set, load, plain}
+use Rattle.ops.specs.Kinds.{need, after}
+use Rattle.ops.specs.Patch.{Item, kindIn, countIn}
+use Rattle.ops.specs.Ops.{rows, rowAt, plainWith, opWith, opAt, plainCount, opCount}
+use Rattle.ops.proofs.Whole.{Tells, tells}
+use Rattle.ops.proofs.Items.{IsItem, Every}
+use Rattle.ops.proofs.Rows.{controlRule, plainRule, rule, Row, row-rule}
+use Rattle.ops.proofs.Meaning.{means}
+use Rattle.patch_check.specs.Rules.{opens, closes, asks, leaves}
+use Rattle.patch_check.specs.Check.{strayEnd, strayElse, depth, from, ended, scan}
+use Rattle.patch_check.specs.Rows.{opensOf, endsOf, elsesOf, needOf, afterOf, fromOf, rowScan}
+use Rattle.patch_check.specs.declared.verdict.Verdict.the-variants.{Passed, NeverClosed}
+
+-- ---- brackets: tested at each of the 62 rows by one computation
+
+-- an Else must stand in one bracket
+abbrev elses : Mark → ℕ
+elses up = 0
+elses down = 0
+elses mid = 1
+elses flat = 0
+
+agrees : ℕ → Bool
+agrees k =
+    eqb (opensOf k) (opens (mark (rowAt k) ∷ [])) && (eqb (endsOf k) (closes (mark (rowAt k) ∷ [])) && eqb (elsesOf k) (elses (mark (rowAt k))))
+
+abbrev all-below : ℕ → Bool
+all-below zero = true
+all-below (suc n) = agrees n && all-below n
+
+and-left : (a b : Bool) → T (a && b) → T a
+and-left true b t = tt
+and-left false b t = t
+
+and-right : (a b : Bool) → T (a && b) → T b
+and-right true b t = t
+and-right false b t = absurd t
+
+at-below : (n : ℕ) → T (all-below n) → (k : ℕ) → k < n → T (agrees k)
+at-below zero t k h = absurd (not-suc-le-zero h)
+at-below (suc n) t k h = by (at-below n (and-right (agrees n) (all-below n) t) k) (decLt k n)
+  where
+    by : (k < n → T (agrees k)) → Dec (k < n) → T (agrees k)
+    by below (yes l) = below l
+    by below (no l) = let e : n ≡ k = omega arith in subst (λ (j : ℕ). T (agrees j)) e (and-left (agrees n) (all-below n) t)
+
+record Bracket (k : ℕ) (m : Mark) : Type 0 where
+  opening : opensOf k ≡ opens (m ∷ [])
+  closing : endsOf k ≡ closes (m ∷ [])
+  dividing : elsesOf k ≡ elses m
+
+all-agree : T (all-below 62)
+unfolding agrees opensOf endsOf elsesOf rowAt rows
+all-agree = tt
+
+row-bracket : (k : ℕ) → k < 62 → Bracket k (mark (rowAt k))
+unfolding agrees
+row-bracket k h =
+    let t = at-below 62 all-agree k h in
+    let a = eqb (opensOf k) (opens (mark (rowAt k) ∷ [])) in
+    let b = eqb (endsOf k) (closes (mark (rowAt k) ∷ [])) in
+    let c = eqb (elsesOf k) (elses (mark (rowAt k))) in
+    let u = and-right a (b && c) t in
+    record {
+      opening = eqb→eq (opensOf k) (opens (mark (rowAt k) ∷ [])) (and-left a (b && c) t);
+      closing = eqb→eq (endsOf k) (closes (mark (rowAt k) ∷ [])) (and-left b c u);
+      dividing = eqb→eq (elsesOf k) (elses (mark (rowAt k))) (and-right b c u);
+    }
+
+-- ---- what a payload leaves of an op as it was
+
+-- the lanes that a need column asks for in the check, and those that an after column leaves
+abbrev asked : ℕ → ℕ → ℕ
+asked c n = cond (eqb c 0) 0 (cond (eqb c 2) n 1)
+
+abbrev left : ℕ → ℕ → ℕ → ℕ
+left c n m = cond (eqb c 0) m (cond (eqb c 1) n 1)
+
+module _ (s : List ℕ) (p n : ℕ) where
+  mark-with : (o : Op) → mark (opWith s p n o) ≡ mark o
+  mark-with (control c) = refl
+  mark-with (set k vs) = refl
+  mark-with (load m) = refl
+  mark-with (plain q) = refl
+
+  control-asks : (c : Control) → asks (control c) ≡ asked (controlRule c) 0
+  control-asks function = refl
+  control-asks call = refl
+  control-asks ret = refl
+  control-asks while = refl
+  control-asks if = refl
+  control-asks else = refl
+  control-asks end = refl
+
+  plain-asks : (q : Plain) → asks (plain (plainWith s p n q)) ≡ asked (need (plainRule q)) (plainCount (plainWith s p n q))
+  plain-asks (comment bs) = refl
+  plain-asks (store m) = refl
+  plain-asks (move v) = refl
+  plain-asks (swap m) = refl
+  plain-asks locate = refl
+  plain-asks (offset v m) = refl
+  plain-asks deref = refl
+  plain-asks refer = refl
+  plain-asks (cell k m) = refl
+  plain-asks (lane k m) = refl
+  plain-asks (get m) = refl
+  plain-asks (put m) = refl
+  plain-asks peek = refl
+  plain-asks poke = refl
+  plain-asks alloc = refl
+  plain-asks free = refl
+
+  asks-with : (o : Op) → asks (opWith s p n o) ≡ asked (need (rule o)) (opCount (opWith s p n o))
+  asks-with (control c) = control-asks c
+  asks-with (set k vs) = refl
+  asks-with (load m) = refl
+  asks-with (plain q) = plain-asks q
+
+  -- the plain ops keep the known lanes
+  plain-after : (q : Plain) → after (plainRule q) ≡ 0
+  plain-after (comment bs) = refl
+  plain-after (store m) = refl
+  plain-after (move v) = refl
+  plain-after (swap m) = refl
+  plain-after locate = refl
+  plain-after (offset v m) = refl
+  plain-after deref = refl
+  plain-after refer = refl
+  plain-after (cell k m) = refl
+  plain-after (lane k m) = refl
+  plain-after (get m) = refl
+  plain-after (put m) = refl
+  plain-after peek = refl
+  plain-after poke = refl
+  plain-after alloc = refl
+  plain-after free = refl
+
+  leaves-with : (o : Op) (m : ℕ) → leaves (opWith s p n o) m ≡ left (after (rule o)) (opCount (opWith s p n o)) m
+  leaves-with (control c) m = refl
+  leaves-with (set k vs) m = refl
+  leaves-with (load c) m = refl
+  leaves-with (plain q) m = sym (ap (λ (c : ℕ). left c (plainCount (plainWith s p n q)) m) (plain-after q))
+
+-- ---- an item and its op
+
+-- what the check sees of a row and a count is what it asks of the op
+record Same (k n : ℕ) (o : Op) : Type 0 where
+  bracket : Bracket k (mark o)
+  needing : needOf k n ≡ asks o
+  leaving : (m : ℕ) → afterOf k n m ≡ leaves o m
+
+module _ (s : List ℕ) (i : Item) (h : IsItem s i) where
+  told : Tells s (h .first) (i .kind) (i .place) (h .len) (i .count) (h .next)
+  told = tells s (h .first) (i .kind) (i .place) (h .len) (i .count) (h .next) (h .is)
+
+  its-row : Row (i .kind)
+  its-row = row-rule (i .kind) (told .small) (told .kept)
+
+  -- the op counts what the item counts
+  counted : (f : ℕ → ℕ) → f (opCount (opAt s i)) ≡ f (i .count)
+  counted f = ap f (means s i h .count)
+
+  same : Same (i .kind) (i .count) (opAt s i)
+  unfolding opAt needOf afterOf
+  same =
+      let o = rowAt (i .kind) in
+      record {
+        bracket = subst (λ (m : Mark). Bracket (i .kind) m) (sym (mark-with s (i .place) (i .count) o)) (row-bracket (i .kind) (told .small));
+        needing =
+            ap (λ (c : ℕ). asked c (i .count)) (its-row .needed)
+            ∙ sym (asks-with s (i .place) (i .count) o ∙ counted (asked (need (rule o))));
+        leaving = λ m. ap (λ (c : ℕ). left c (i .count) m) (its-row .known)
+            ∙ sym (leaves-with s (i .place) (i .count) o m ∙ counted (λ (n : ℕ). left (after (rule o)) n m));
+      }
+
+-- ---- one op of the scan
+
+stray-ends : (m : Mark) (d : ℕ) → ltb d (closes (m ∷ [])) ≡ strayEnd m d
+stray-ends up d = le-ltb d 0 (omega arith)
+stray-ends mid d = le-ltb d 0 (omega arith)
+stray-ends flat d = le-ltb d 0 (omega arith)
+stray-ends down zero = refl
+stray-ends down (suc d) = le-ltb (suc d) 1 (omega arith)
+
+stray-elses : (m : Mark) (d : ℕ) → ltb d (elses m) ≡ strayElse m d
+stray-elses up d = le-ltb d 0 (omega arith)
+stray-elses down d = le-ltb d 0 (omega arith)
+stray-elses flat d = le-ltb d 0 (omega arith)
+stray-elses mid zero = refl
+stray-elses mid (suc d) = le-ltb (suc d) 1 (omega arith)
+
+depths : (m : Mark) (d : ℕ) → d + opens (m ∷ []) - closes (m ∷ []) ≡ depth m d
+depths up d = omega arith
+depths flat d = omega arith
+depths mid d = omega arith
+depths down zero = omega arith
+depths down (suc d) = omega arith
+
+froms : (d p f : ℕ) → fromOf d p f ≡ from d p f
+unfolding fromOf
+froms zero p f = refl
+froms (suc d) p f = rw (ne-eqb (suc d) 0 (λ e. omega arith))
+
+ends : (d p f : ℕ) → cond (eqb d 0) (Passed p) (NeverClosed f) ≡ ended d p f
+ends zero p f = refl
+ends (suc d) p f = rw (ne-eqb (suc d) 0 (λ e. omega arith))
+
+module _ (s : List ℕ) where
+  pub same-scan : (is : List Item) → Every (IsItem s) is → (f p m d : ℕ) → rowScan f p m d (map kindIn is) (map countIn is) ≡ scan f p m d (map (opAt s) is)
+  unfolding rowScan scan
+  same-scan [] e f p m d = ends d p f
+  same-scan (i ∷ is) e f p m d =
+      let k = i .kind in
+      let n = i .count in
+      let o = opAt s i in
+      let z = same s i (e .0) in
+      let t : ltb d (endsOf k) ≡ strayEnd (mark o) d = ap (ltb d) (z .bracket .closing) ∙ stray-ends (mark o) d in
+      let u : ltb d (elsesOf k) ≡ strayElse (mark o) d = ap (ltb d) (z .bracket .dividing) ∙ stray-elses (mark o) d in
+      let v : ltb m (needOf k n) ≡ ltb m (asks o) = ap (ltb m) (z .needing) in
+      let a : d + opensOf k - endsOf k ≡ depth (mark o) d =
+      ap (λ (x : ℕ). d + x - endsOf k) (z .bracket .opening) ∙ ap (λ (x : ℕ). d + opens (mark o ∷ []) - x) (z .bracket .closing) ∙ depths (mark o) d in
+      rw (t, u, v, a, z .leaving m, froms d p f, same-scan is (e .1) (from d p f) (suc p) (leaves o m) (depth (mark o) d))

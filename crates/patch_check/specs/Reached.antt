@@ -1,0 +1,14 @@
+-- The states that runs of a patch come to. Assumes nothing.
+use Prim.Native.Nat.{ℕ}
+use mathlib.Core.List.{List}
+use Rattle.ops.specs.Op.{Op}
+use Rattle.machine_model.specs.State.{State, Given, fresh}
+use Rattle.machine_model.specs.Run.{run}
+
+abbrev pub given : List Op → List ℕ → ℕ → Given
+given os input room = record { ops = os; input = input; room = room }
+
+-- the fresh state, and what a run leaves, from a state that was reached: a budget spent and taken up again, with any input and any room
+pub data Reached (os : List Op) : State → Type 0 where
+  at-first : (cells : ℕ) → Reached os (fresh cells)
+  run-on : (s : State) (input : List ℕ) (room budget : ℕ) → Reached os s → Reached os (run (given os input room) budget s .state)
