@@ -116,6 +116,6 @@ cases =
     ∷ case (ran (one 9007199254740993 ∷ plain (lane ToFloat 1) ∷ plain (lane ToInt 1) ∷ []) []) (0 ∷ 3 ∷ 0 ∷ 3 ∷ 3 ∷ 9007199254740992 ∷ 0 ∷ 0 ∷ [])
     ∷ []
 
-pub all : map (λ c. tried (c .make)) cases ≡ map (λ c. c .seen) cases
+all : map (λ c. tried (c .make)) cases ≡ map (λ c. c .seen) cases
 unfolding tried cases
 all = refl
