@@ -1,0 +1,1 @@
+// Flattening as definitions (specs/) and theorems on them (proofs/).

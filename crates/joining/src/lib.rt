@@ -1,0 +1,1 @@
+// Joining: each op of a patch pushed on the ops before it.

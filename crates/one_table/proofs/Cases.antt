@@ -1,0 +1,121 @@
+-- The thirteen cases of 01-scope.md ('Proved by one table'), computed from the definitions of run, check, joining and flattening and compared
+-- as one list. Assumes nothing.
+use Prim.Native.Nat.{ℕ, _+_, _-_, _^_}
+use mathlib.Core.Path.{_≡_, refl}
+use mathlib.Core.Bool.{Bool, true, false, cond}
+use mathlib.Core.List.{List, [], _∷_, _++_, map}
+use lib.ListN.{length, getD}
+use Rattle.lanes.specs.declared.lane.CellOp.the-variants.{Div, Rem, LeftShift, Add}
+use Rattle.lanes.specs.declared.lane.LaneOp.the-variants.{ToFloat, ToInt}
+use Rattle.ops.specs.declared.op.Mode.the-variants.{Char, Int}
+use Rattle.ops.specs.Op.{Op, Plain, kindOf, argOf, valuesOf}
+use Rattle.ops.specs.Op.Control.{function, call, ret, if, end}
+use Rattle.ops.specs.Op.Plain.{comment, move, deref, refer, store, put, get, alloc, cell, lane}
+use Rattle.ops.specs.Op.Sort.{ints}
+use Rattle.ops.specs.Op.Op.{control, set, load, plain}
+use Rattle.machine_model.specs.State.{fresh, lane0}
+use Rattle.machine_model.specs.Run.{Answer, run}
+use Rattle.patch_check.specs.Check.{check}
+use Rattle.patch_check.specs.Verdict.{numberOf, placeOf}
+use Rattle.patch_check.specs.declared.verdict.Verdict.{Verdict}
+use Rattle.joining.specs.Join.{join}
+use Rattle.flattening.specs.Flatten.{flatten, Flat, Body}
+use Rattle.flattening.specs.Flatten.Flat.{loose, flat}
+
+-- a patch and its input, checked and run as the runner does; a patch joined; a patch flattened
+data Try : Type 0 where
+  ran : List Op → List ℕ → Try
+  joined flattened : List Op → Try
+
+record Case : Type 0 where
+  make : Try
+  seen : List ℕ
+
+-- the check's number and place, the run's number, steps and place, then lane 0, the values taken, the counted length, and the outputs
+show-run : Verdict → Answer → List ℕ
+show-run v a =
+    numberOf v ∷ placeOf v ∷ a .number ∷ a .steps ∷ a .place ∷ lane0 (a .state) ∷ a .state .taken ∷ a .state .counted ∷ a .state .outs
+
+-- each op's kind, argument and values
+show-ops : List Op → List ℕ
+show-ops [] = []
+show-ops (o ∷ os) = kindOf o ∷ argOf o ∷ valuesOf o ++ show-ops os
+
+-- each body's number, first op and op count
+show-bodies : List Body → List ℕ
+show-bodies [] = []
+show-bodies (b ∷ bs) = b .named-by ∷ b .first ∷ b .count ∷ show-bodies bs
+
+show-flat : Flat → List ℕ
+unfolding show-ops show-bodies
+show-flat (loose p) = 10 ∷ p ∷ []
+show-flat (flat os bs) = show-bodies bs ++ show-ops os
+
+-- "4,096 cells, room for 4,096 outputs, budget 100,000"
+tried : Try → List ℕ
+unfolding show-run run check fresh show-ops show-flat join flatten
+tried (ran os vs) = show-run (check os) (run (record { ops = os; input = vs; room = 4096 }) 100_000 (fresh 4096))
+tried (joined os) = show-ops (join os)
+tried (flattened os) = show-flat (flatten os)
+
+one : ℕ → Op
+one v = set ints (v ∷ [])
+
+-- integers below 0, by their bits
+minus : ℕ → ℕ
+minus n = 2 ^ 64 - n
+
+least : ℕ
+least = 2 ^ 63
+
+-- a value put in the first cell, a lane set, and an op on the two
+on : ℕ → ℕ → Plain → List Op
+unfolding one
+on a b p = one b ∷ plain (store 1) ∷ one a ∷ plain p ∷ []
+
+-- `fun, set [v], put, ret, end`
+prints : ℕ → List Op → List Op
+unfolding one
+prints v os = control function ∷ one v ∷ plain (put Char) ∷ control ret ∷ control end ∷ os
+
+case : Try → List ℕ → Case
+case t l = record { make = t; seen = l }
+
+cases : List Case
+unfolding on one case minus least prints
+cases =
+    -- 1. least / -1, least % -1, -7 / 2, -7 % 2: least, 0, -3, -1
+    case (ran (on least (minus 1) (cell Div 1)) []) (0 ∷ 4 ∷ 0 ∷ 4 ∷ 4 ∷ least ∷ 0 ∷ 100_000 ∷ [])
+    ∷ case (ran (on least (minus 1) (cell Rem 1)) []) (0 ∷ 4 ∷ 0 ∷ 4 ∷ 4 ∷ 0 ∷ 0 ∷ 100_000 ∷ [])
+    ∷ case (ran (on (minus 7) 2 (cell Div 1)) []) (0 ∷ 4 ∷ 0 ∷ 4 ∷ 4 ∷ minus 3 ∷ 0 ∷ 100_000 ∷ [])
+    ∷ case (ran (on (minus 7) 2 (cell Rem 1)) []) (0 ∷ 4 ∷ 0 ∷ 4 ∷ 4 ∷ minus 1 ∷ 0 ∷ 100_000 ∷ [])
+    -- 2. 1 shifted left by -1: least
+    ∷ case (ran (on 1 (minus 1) (cell LeftShift 1)) []) (0 ∷ 4 ∷ 0 ∷ 4 ∷ 4 ∷ least ∷ 0 ∷ 100_000 ∷ [])
+    -- 3. `alloc` fresh: 29,999
+    ∷ case (ran (plain alloc ∷ []) []) (0 ∷ 1 ∷ 0 ∷ 1 ∷ 1 ∷ 29_999 ∷ 0 ∷ 30_000 ∷ [])
+    -- 4. `load 1, alloc`: 99,999
+    ∷ case (ran (load 1 ∷ plain alloc ∷ []) []) (0 ∷ 2 ∷ 0 ∷ 2 ∷ 2 ∷ 99_999 ∷ 0 ∷ 100_000 ∷ [])
+    -- 5. `add 1` fresh: 22 at 0
+    ∷ case (ran (plain (cell Add 1) ∷ []) []) (0 ∷ 1 ∷ 22 ∷ 0 ∷ 0 ∷ 0 ∷ 0 ∷ 0 ∷ [])
+    -- 6. `load 0, if`: check 12 at 1, run 21 at 1
+    ∷ case (ran (load 0 ∷ control if ∷ []) []) (12 ∷ 1 ∷ 21 ∷ 1 ∷ 1 ∷ 0 ∷ 0 ∷ 100_000 ∷ [])
+    -- 7. `end`: check 10 at 0; run finishes, 1 step
+    ∷ case (ran (control end ∷ []) []) (10 ∷ 0 ∷ 0 ∷ 1 ∷ 1 ∷ 0 ∷ 0 ∷ 0 ∷ [])
+    -- 8. Input 32, 305, 65, int: 1, with 65 left
+    ∷ case (ran (plain (get Int) ∷ []) (32 ∷ 305 ∷ 65 ∷ [])) (0 ∷ 1 ∷ 0 ∷ 1 ∷ 1 ∷ 1 ∷ 2 ∷ 0 ∷ [])
+    -- 9. "check 0 15", "run 0 11 5", "out 66 66"
+    ∷ case (ran (one 1 ∷ control call ∷ one 0 ∷ control call ∷ control ret ∷ prints 65 (prints 66 [])) []) (0 ∷ 15 ∷ 0 ∷ 11 ∷ 5 ∷ 66 ∷ 0 ∷ 0 ∷ 66 ∷ 66 ∷ [])
+    -- 10. Join `move 3, set [1], move -3`: `set [1]`
+    ∷ case (joined (plain (move 3) ∷ one 1 ∷ plain (move (minus 3)) ∷ [])) (1 ∷ 0 ∷ 1 ∷ [])
+    -- 11. `deref, move 5, ref`: empty
+    ∷ case (joined (plain deref ∷ plain (move 5) ∷ plain refer ∷ [])) []
+    -- 12. Flatten `// a, fun, end, fun, end`: numbers 0 and 2, comment last
+    ∷ case (flattened (plain (comment (97 ∷ [])) ∷ control function ∷ control end ∷ control function ∷ control end ∷ [])) (0 ∷ 0 ∷ 2 ∷ 2 ∷ 2 ∷ 2 ∷ 2 ∷ 0 ∷ 8 ∷ 0 ∷ 2 ∷ 0 ∷ 8 ∷ 0 ∷ 0 ∷ 0 ∷ [])
+    -- 13. ToFloat 9007199254740993: 9007199254740992, as its bits and taken back to an integer
+    ∷ case (ran (one 9007199254740993 ∷ plain (lane ToFloat 1) ∷ []) []) (0 ∷ 2 ∷ 0 ∷ 2 ∷ 2 ∷ 0x4340000000000000 ∷ 0 ∷ 0 ∷ [])
+    ∷ case (ran (one 9007199254740993 ∷ plain (lane ToFloat 1) ∷ plain (lane ToInt 1) ∷ []) []) (0 ∷ 3 ∷ 0 ∷ 3 ∷ 3 ∷ 9007199254740992 ∷ 0 ∷ 0 ∷ [])
+    ∷ []
+
+all : map (λ c. tried (c .make)) cases ≡ map (λ c. c .seen) cases
+unfolding tried cases
+all = refl

@@ -1,0 +1,1 @@
+// The thirteen cases of 01-scope.md, computed and compared as one list (proofs/Cases), with no code.
