@@ -14,8 +14,8 @@ use Rattle.ops.specs.Op.Control.{end}
 use Rattle.ops.specs.Op.Plain.{comment, move, offset, put, get}
 use Rattle.ops.specs.Op.Sort.{ints, floats}
 use Rattle.ops.specs.Op.Op.{control, set, load, plain}
-use Rattle.ops.specs.Patch.{Loaded, walk, patchOf, readOf, markOf}
-use Rattle.ops.specs.Ops.{rows, rowAt, opAt, Patch, opsOf}
+use Rattle.ops.specs.Patch.{walk, patchOf, readOf, markOf}
+use Rattle.ops.specs.Ops.{rows, rowAt, opAt, opsOf}
 use Rattle.ops.specs.Ops.Patch.{ops, refused}
 use Rattle.ops.specs.declared.reader.Read.{Read}
 

@@ -1,24 +1,24 @@
 -- The items that are loaded are the file's ops: their rows, counts and needs are those of `opAt`. Assumes nothing.
 use mathlib.Core.Path.{_≡_, refl, _∙_, sym, ap}
-use mathlib.Core.Bool.{Bool, true, false, cond}
+use mathlib.Core.Bool.{cond}
 use mathlib.Core.List.{List, [], _∷_, map}
-use Prim.Native.Nat.{ℕ, zero, suc, _+_, _-_, _<_, _≤_}
+use Prim.Native.Nat.{ℕ, zero, suc, _+_, _<_, _≤_}
 use native.Mathlib.Omega.{arith}
 use borrow.Author.Tests.{eq-eqb, ne-eqb}
 use lib.Dec.{eqb}
-use lib.ListN.{length, take, drop, length-take, length-drop}
-use Rattle.ops.specs.Bytes.{u16At, u32At, u64At, valuesAt, textAt}
-use Rattle.ops.specs.Kinds.{shape, need, after, kindAt, indexOf, runNeed}
+use lib.ListN.{length, getD, drop, length-take, length-drop}
+use Rattle.ops.specs.Bytes.{valuesAt, textAt}
+use Rattle.ops.specs.Kinds.{shape, need, indexOf, runNeed}
 use Rattle.ops.specs.Record.{countOf}
 use Rattle.ops.specs.Op.{Control, Plain, Op, kindOf, plainKind, needs, needsOf, plainNeeds}
 use Rattle.ops.specs.Op.Control.{function, call, ret, while, if, else, end}
 use Rattle.ops.specs.Op.Plain.{comment, store, move, swap, locate, offset, deref, refer, cell, lane, get, put, peek, poke, alloc, free}
 use Rattle.ops.specs.Op.Op.{control, set, load, plain}
-use Rattle.ops.specs.Patch.{Item, needIn, patchOf}
-use Rattle.ops.specs.Ops.{rowAt, plainWith, opWith, opAt, plainCount, opCount, Patch, opsOf}
+use Rattle.ops.specs.Patch.{Item, kindIn, countIn, needIn, patchOf}
+use Rattle.ops.specs.Ops.{rowAt, plainWith, opWith, opAt, plainCount, opCount, opsOf}
 use Rattle.ops.specs.Ops.Patch.{ops, refused}
 use Rattle.ops.proofs.Whole.{Tells, tells}
-use Rattle.ops.proofs.Items.{IsItem}
+use Rattle.ops.proofs.Items.{IsItem, Every, items-are, item-at}
 use Rattle.ops.proofs.Rows.{controlRule, plainRule, rule, Row, row-rule}
 
 -- ---- the file's ops
@@ -169,3 +169,23 @@ module _ (s : List ℕ) (i : Item) (h : IsItem s i) where
     count = its-count;
     needed = its-need;
   }
+
+pub item-means : (s : List ℕ) (d : Item) (i : ℕ) → i < length (patchOf s .items) → Means s (getD (patchOf s .items) i d)
+item-means s d i h = means s (getD (patchOf s .items) i d) (item-at s d i h)
+
+-- ---- the arrays' columns are those of the ops
+
+module _ (P : Item → Type 0) (f g : Item → ℕ) (h : (i : Item) → P i → f i ≡ g i) where
+  same : (xs : List Item) → Every P xs → map f xs ≡ map g xs
+  same [] e = refl
+  same (x ∷ xs) e = ap (λ (a : ℕ). a ∷ map f xs) (h x (e .0)) ∙ ap (λ (l : List ℕ). g x ∷ l) (same xs (e .1))
+
+module _ (s : List ℕ) where
+  pub rows-are : map (λ (i : Item). indexOf (kindOf (opAt s i))) (patchOf s .items) ≡ map kindIn (patchOf s .items)
+  rows-are = same (IsItem s) _ _ (λ (i : Item) (h : IsItem s i). means s i h .row) (patchOf s .items) (items-are s)
+
+  pub counts-are : map (λ (i : Item). opCount (opAt s i)) (patchOf s .items) ≡ map countIn (patchOf s .items)
+  counts-are = same (IsItem s) _ _ (λ (i : Item) (h : IsItem s i). means s i h .count) (patchOf s .items) (items-are s)
+
+  pub needs-are : map (λ (i : Item). needs (opAt s i)) (patchOf s .items) ≡ map needIn (patchOf s .items)
+  needs-are = same (IsItem s) _ _ (λ (i : Item) (h : IsItem s i). means s i h .needed) (patchOf s .items) (items-are s)

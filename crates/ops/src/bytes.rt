@@ -1,6 +1,6 @@
 // Little-endian numbers of a byte slice.
 ghost use mathlib.Core.Path.{_≡_};
-ghost use Prim.Native.Nat.{ℕ, _+_, _*_, _<_, _≤_};
+ghost use Prim.Native.Nat.{_+_, _*_, _<_, _≤_};
 ghost use lib.ListN.{length};
 ghost use Rattle.ops.specs.Bytes.{u16At, u32At, u64At};
 

@@ -1,6 +1,6 @@
 // The table of the 62 kinds: core kinds 0 to 39 are rows 0 to 39, standard kinds 256 to 277 are rows 40 to 61.
 ghost use mathlib.Core.Path.{_≡_};
-ghost use Prim.Native.Nat.{ℕ, _<_, _≤_};
+ghost use Prim.Native.Nat.{_≤_};
 ghost use Rattle.ops.specs.Kinds.{kindAt, indexOf, runNeed};
 
 // The payloads: none, text, values of 8 bytes, a lane count, an i64, an i64 and a lane count, a mode; and the kinds left out.

@@ -1,10 +1,10 @@
 // The whole file: which refusal is first, or which ops it holds.
 ghost use mathlib.Core.Path.{_≡_};
-ghost use mathlib.Core.List.{List, map};
-ghost use Prim.Native.Nat.{ℕ, _+_, _<_, _≤_};
+ghost use mathlib.Core.List.{map};
+ghost use Prim.Native.Nat.{_≤_};
 ghost use lib.ListN.{length};
 ghost use Rattle.ops.specs.Storage.{fill};
-ghost use Rattle.ops.specs.Patch.{Item, kindIn, countIn, needIn, placeIn, markOf, refusedAt, patchOf, readOf};
+ghost use Rattle.ops.specs.Patch.{kindIn, countIn, needIn, placeIn, markOf, refusedAt, patchOf, readOf};
 use crate::kinds::run_need;
 use crate::limits::FILE_BYTES;
 use crate::limits::MARKS;

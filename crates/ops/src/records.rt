@@ -1,7 +1,7 @@
 // The record at a place of a patch file, tested in the order of the refusals.
 ghost use mathlib.Core.Path.{_≡_};
-ghost use mathlib.Core.Bool.{Bool, true};
-ghost use Prim.Native.Nat.{ℕ, _+_, _<_, _≤_};
+ghost use mathlib.Core.Bool.{true};
+ghost use Prim.Native.Nat.{_+_, _≤_};
 ghost use lib.ListN.{length};
 ghost use Rattle.ops.specs.Record.{lengthOk, countOf, modeOf, bodyAt, recordAt};
 use crate::bytes::u16_at;

@@ -1,6 +1,5 @@
 // Why a file is refused.
 ghost use mathlib.Core.Path.{_≡_};
-ghost use Prim.Native.Nat.{ℕ};
 ghost use Rattle.ops.specs.Refusals.{numberOf};
 
 pub enum Refusal {
