@@ -1,6 +1,6 @@
 // What a payload holds: a Set's values, and the mode of Get and Put.
 ghost use mathlib.Core.Path.{_≡_};
-ghost use Prim.Native.Nat.{ℕ, _+_, _*_, _≤_};
+ghost use Prim.Native.Nat.{_+_, _*_, _≤_};
 ghost use lib.ListN.{length};
 ghost use Rattle.ops.specs.Bytes.{u16At, valuesAt};
 ghost use Rattle.ops.specs.Storage.{fill};

@@ -1,6 +1,6 @@
 // The writer of one record.
 ghost use mathlib.Core.Path.{_≡_};
-ghost use Prim.Native.Nat.{ℕ, _+_, _≤_, _<_};
+ghost use Prim.Native.Nat.{_+_, _≤_};
 ghost use lib.ListN.{length};
 ghost use Rattle.ops.specs.Bytes.{textAt};
 ghost use Rattle.ops.specs.Write.{le16, le32, recordOf, placed, hasRoom, wrote, writeOf};
