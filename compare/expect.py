@@ -1,27 +1,37 @@
 #!/usr/bin/env python3
-"""Reads a list and the judge's lines about it, and counts: where the two agree, and each difference of docs/DIFFERENCES.md by its name.
+"""Asks the judge about a list, and counts: where the Rust agrees, and each difference of docs/DIFFERENCES.md by its name.
 
-    expect.py LIST VERDICTS            prints the counts and the first disagreements; exit status 1 if there is one
-    expect.py LIST VERDICTS keep OUT   writes those cases to OUT again that are settled, which is all but the disagreements
-    expect.py smallest VERDICTS        the smallest inputs (generate.py smallest): each row must be met as the document says
+    expect.py LIST       prints the counts and the first disagreements; exit status 1 if there is one
+    expect.py smallest   the smallest inputs (generate.py smallest): each row must be met as the document says
 
 A case is settled where the Rust agrees to the last step, or where it agrees up to a refusal and does there what the document says.
+What is not settled is a disagreement: a wrong reading, or a difference that is still to be listed.
 """
+import os
+import subprocess
 import sys
 
 import generate
 import lists
 from model01 import AND, CALL, DEREF, DIV, GET, OR, PEEK, REM
 
+HERE = os.path.dirname(os.path.abspath(__file__))
 AGREE = "agree with the Rust to the end"
 PORT = "answers of the port alone (file, 37, 40, check)"
 ROOM = "beyond the judge's room"
+OUTSIDE = {"agree": AGREE, "port": PORT, "utf8": "comment bytes", "dirty": "lent cells not zero", "big": ROOM}
+AT_THE_OP = {
+    (20, "hang"): "endless search", (21, "panic"): "missing lane", (22, "panic"): "cell beyond the length", (23, "went"): "lent tape",
+    (24, "err"): "both refuse", (25, "went"): "pointer limit", (26, "panic"): "negative cell", (27, "err"): "both refuse",
+    (28, "went"): "negative call", (29, "err"): "both refuse", (30, "panic"): "Alloc's room", (33, "err"): "both refuse",
+    (34, "went"): "channel limit", (35, "err"): "both refuse", (36, "went"): "output room",
+}
 
 
 def name(sort, number, verdict, kind):
     """The difference's name, or what else the verdict says; None for a disagreement."""
-    if verdict in ("agree", "port", "utf8", "dirty", "big"):
-        return {"agree": AGREE, "port": PORT, "utf8": "comment bytes", "dirty": "lent cells not zero", "big": ROOM}[verdict]
+    if verdict in OUTSIDE:
+        return OUTSIDE[verdict]
     if sort == lists.FLATTEN:
         return "stray End" if (number, verdict) == (10, "panic") else None
     if number == 21 and verdict == "went" and kind in (DIV, REM):
@@ -33,69 +43,75 @@ def name(sort, number, verdict, kind):
     if number == 32 and verdict in ("went", "err", "panic") and kind in (CALL, DEREF):
         # a step further the Rust may find a function that is not there, or a negative cell
         return "stack limit"
-    return {
-        (20, "hang"): "endless search", (21, "panic"): "missing lane", (22, "panic"): "cell beyond the length",
-        (23, "went"): "lent tape", (24, "err"): "both refuse", (25, "went"): "pointer limit", (26, "panic"): "negative cell",
-        (27, "err"): "both refuse", (28, "went"): "negative call", (29, "err"): "both refuse", (30, "panic"): "Alloc's room",
-        (33, "err"): "both refuse", (34, "went"): "channel limit", (35, "err"): "both refuse", (36, "went"): "output room",
-    }.get((number, verdict))
+    return AT_THE_OP.get((number, verdict))
 
 
-def verdicts(path):
-    with open(path) as f:
-        for line in f:
-            sort, number, verdict, kind, nans = line.split()
-            yield int(sort), int(number), verdict, None if kind == "-" else int(kind), int(nans)
+def build():
+    return subprocess.run([os.path.join(HERE, "build")], stdout=subprocess.PIPE, check=True, text=True).stdout.strip()
 
 
-def tally(cases, path, keep=None):
-    """Counts by name, with the disagreements."""
+def judged(judge, data, *flags, timeout=None):
+    """The judge's verdict on each case: sort, number, verdict, kind, NaNs."""
+    told = subprocess.run([judge, *flags], input=data, stdout=subprocess.PIPE, check=True, timeout=timeout).stdout.decode()
+    for line in told.splitlines():
+        sort, number, verdict, kind, nans = line.split()
+        yield int(sort), int(number), verdict, None if kind == "-" else int(kind), int(nans)
+
+
+def tally(judge, cases):
+    """Of cases as bytes: counts by name, and the disagreements as (place in the list, verdict)."""
     counts, wrong = {}, []
-    told = verdicts(path)
-    for i, c in enumerate(cases):
-        sort, number, verdict, kind, nans = next(told)
+    told = list(judged(judge, b"".join(cases)))
+    if len(told) != len(cases):
+        sys.exit("expect.py: %d verdicts for %d cases" % (len(told), len(cases)))
+    for i, (sort, number, verdict, kind, nans) in enumerate(told):
         found = name(sort, number, verdict, kind)
         if found is None:
-            wrong.append((i, verdict, c))
+            wrong.append((i, verdict))
         else:
             counts[found] = counts.get(found, 0) + 1
-            if keep is not None:
-                keep.write(lists.write(c))
         if nans:
             counts["NaN bits"] = counts.get("NaN bits", 0) + 1
-    if next(told, None) is not None:
-        sys.exit("expect.py: more verdicts than cases")
     return counts, wrong
 
 
-def smallest(path):
-    rows, bad = {}, 0
-    for (row, wanted, c), (sort, number, verdict, kind, nans) in zip(generate.smallest(), verdicts(path)):
-        met = verdict == wanted
-        # on some processors a new NaN has the fixed bits already
-        if row not in ("NaN bits",) and verdict not in ("big",):
-            met = met and name(sort, number, verdict, kind) == row
-        print("%-24s %-5s %s: %s" % (row, verdict, "as listed" if met else "NOT AS LISTED (%s)" % wanted, lists.patch_words(c.patch)))
+def told(counts, wrong):
+    for key in sorted(counts, key=lambda k: -counts[k]):
+        print("%9d  %s" % (counts[key], key))
+    print("%9d  DISAGREE" % wrong)
+
+
+def smallest(judge):
+    """The rows of docs/DIFFERENCES.md, tried; a hang is tried as it is, with a second's time."""
+    rows = list(generate.smallest())
+    data = [lists.write(c) for c in generate.answered(c for _, _, c in rows)]
+    bad = 0
+    for (row, wanted, c), case in zip(rows, data):
+        sort, number, verdict, kind, nans = next(judged(judge, case))
+        met = verdict == wanted and (name(sort, number, verdict, kind) == row or verdict in ("agree", "big"))
+        if verdict == "hang":
+            try:
+                list(judged(judge, case, "--raw", timeout=1))
+                met = False
+            except subprocess.TimeoutExpired:
+                pass
+        print("%-22s %-5s %s: %s" % (row, verdict, "as listed" if met else "NOT AS LISTED (%s)" % wanted, lists.patch_words(c.patch)))
         bad += not met
     return bad
 
 
 def main(args):
-    if len(args) == 2 and args[0] == "smallest":
-        sys.exit(1 if smallest(args[1]) else 0)
-    if len(args) not in (2, 4):
+    if len(args) != 1:
         sys.exit(__doc__)
+    judge = build()
+    if args[0] == "smallest":
+        sys.exit(1 if smallest(judge) else 0)
     with open(args[0], "rb") as f:
-        cases = lists.read(f.read())
-    keep = open(args[3], "wb") if len(args) == 4 else None
-    counts, wrong = tally(cases, args[1], keep)
-    if keep:
-        keep.close()
-    for key in sorted(counts, key=lambda k: -counts[k]):
-        print("%8d  %s" % (counts[key], key))
-    print("%8d  DISAGREE" % len(wrong))
-    for i, verdict, c in wrong[:5]:
-        print("case %d, the judge says %s: %s" % (i, verdict, lists.show(c)))
+        cases = list(lists.split(f.read()))
+    counts, wrong = tally(judge, cases)
+    told(counts, len(wrong))
+    for i, verdict in wrong[:5]:
+        print("case %d, the judge says %s: %s" % (i, verdict, lists.show(next(lists.read(cases[i])))))
     sys.exit(1 if wrong else 0)
 
 

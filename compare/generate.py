@@ -20,6 +20,7 @@ sys.setrecursionlimit(20000)
 EMPTY = [FUNCTION, CALL, RETURN, WHILE, IF, ELSE, END, WHERE, DEREF, REFER, ALLOC, FREE, PEEK, POKE]
 PLAIN = [WHERE, DEREF, REFER, ALLOC, FREE, PEEK, POKE]
 KINDS = sorted(set(range(40)) | set(range(256, 268)) | {275, 276})
+UNBRACKETED = [k for k in KINDS if k not in (FUNCTION, WHILE, IF, ELSE, END, CALL, RETURN)]
 FLOAT_KINDS = list(range(259, 268))
 INTEGERS = [0, 0, 0, 1, 1, 1, 2, 3, 4, 5, 7, 10, 63, 64, 65, 255, 256, 1000, 99_999, 100_000, 1 << 31, 1 << 32, (1 << 32) - 1,
             (1 << 53) + 1, (1 << 62) + 3, (1 << 63) - 1, 1 << 63, (1 << 63) + 1, WORD, WORD, WORD - 1, WORD - 6, 999_999_999,
@@ -29,7 +30,7 @@ FLOATS = [0x0000000000000000, 0x8000000000000000, 0x3FF0000000000000, 0xBFF00000
           0xFFF4000000000123, 0x0000000000000001, 0x800FFFFFFFFFFFFF, 0x0010000000000000, 0x7FEFFFFFFFFFFFFF, 0xFFEFFFFFFFFFFFFF,
           0x43E0000000000000, 0xC3E0000000000000, 0xC3E0000000000001, 0x43DFFFFFFFFFFFFF, 0x4340000000000001, 0x3FB999999999999A,
           0x3FD5555555555555, 0x4008000000000000]
-TAPES = [0, 1, 2, 4, 8, 8, 16, 16, 32, 64]
+TAPES = [0, 1, 2, 4, 8, 16, 32, 32, 64, 64, 64, 200]
 
 
 def op(kind, *held):
@@ -125,6 +126,8 @@ def exhaustive():
 class Maker:
     def __init__(self, seed):
         self.r = random.Random(seed)
+        # of the patch in work: functions to call, pointers saved and values sent by the ops so far
+        self.functions = self.saved = self.sent = 0
 
     def value(self, floats=False):
         r = self.r
@@ -155,7 +158,24 @@ class Maker:
         return bytes(r.randrange(256) for _ in range(r.choice([1, 2, 5, 255])))
 
     def make(self, kind, known=None, floats=False):
+        """An op of this kind. What would most often be refused, as a Refer with nothing saved, is most often another op."""
         r = self.r
+        if r.random() < 0.93:
+            if kind == DEREF:
+                self.saved += 1
+                return op(SET, r.randrange(6)) + op(STORE, 1) + op(DEREF)
+            if kind == REFER and not self.saved:
+                kind = WHERE
+            elif kind == PEEK and not self.sent:
+                kind = POKE
+            elif kind == CALL and self.functions:
+                return op(SET, r.randrange(self.functions)) + op(CALL)
+            elif kind == CALL:
+                kind = FREE
+            elif kind == ALLOC:
+                return op(SET, r.choice([0, 1, 2, 30_000])) + op(ALLOC)
+        self.saved += (kind == DEREF) - (kind == REFER)
+        self.sent += (kind == POKE) - (kind == PEEK)
         if kind in (SET, SETF):
             n = r.choice([0, 1, 1, 1, 1, 2, 2, 3, 4]) if r.random() < 0.99 else r.choice([16, 64])
             return op(kind, *[self.value(floats or kind == SETF) for _ in range(n)])
@@ -177,7 +197,15 @@ class Maker:
         """Any ops in any order."""
         r = self.r
         pool = FLOAT_KINDS if floats else KINDS
-        return [self.make(r.choice(pool if r.random() < 0.7 else KINDS), floats=floats) for _ in range(n)]
+        known = 1024
+        out = []
+        for _ in range(n):
+            kind = r.choice(pool if r.random() < 0.7 else KINDS)
+            one = self.make(kind, known if r.random() < 0.95 else None, floats)
+            if kind in (SET, SETF, LOAD):
+                known = model01.read_patch(one)[2][-1].n
+            out.append(one)
+        return out
 
     def steady(self, known, floats=False):
         """One op that is no bracket, within the known lanes; the lanes known after it."""
@@ -201,7 +229,8 @@ class Maker:
         if pick < 0.92 and known:
             return self.make(r.choice([GET, PUT, PUT])), known
         kind = r.choice(PLAIN + [COMMENT])
-        return self.make(kind), known
+        one = self.make(kind)
+        return one, min(known, 1) if kind in (DEREF, ALLOC) else known
 
     def block(self, n, known, checked, floats, nest=0):
         """A well-bracketed block of about n ops; checked keeps within the known lanes."""
@@ -232,8 +261,8 @@ class Maker:
                 out.append(op(END))
                 known = 1
             elif pick < 0.33 and known:
-                out += [op(SET, r.choice([0, 0, 1, 1, 2, 3])), op(CALL)]
-                known = 1
+                out.append(self.make(CALL))
+                known = 1 if known else 0
             elif pick < 0.35 and known and not checked:
                 out.append(op(RETURN))
                 known = 1
@@ -241,23 +270,40 @@ class Maker:
                 one, known = self.steady(known, floats)
                 out.append(one)
             else:
-                out.append(self.make(r.choice(FLOAT_KINDS if floats and r.random() < 0.6 else [
-                    k for k in KINDS if k not in (FUNCTION, WHILE, IF, ELSE, END, CALL, RETURN)]), floats=floats))
+                kind = r.choice(FLOAT_KINDS if floats and r.random() < 0.6 else UNBRACKETED)
+                one = self.make(kind, known if r.random() < 0.97 else None, floats)
+                if kind in (SET, SETF, LOAD):
+                    known = model01.read_patch(one)[2][-1].n
+                out.append(one)
         return out, known
 
     def ops(self, floats=False):
         """The ops of a patch of some style, and the style."""
         r = self.r
-        n = r.choice([1, 2, 3, 5, 8, 12, 20, 30])
+        n = r.choice([1, 2, 3, 5, 8, 12, 20, 30, 40])
         pick = r.random()
+        self.saved = self.sent = 0
         # so that cells can be reached
-        head = r.choice([[], [], [op(LOAD, r.choice([0, 1, 2]))], [op(ALLOC)], [op(LOAD, 8), op(SET, 5, 7, 1, 0)],
-                         [op(LOAD, 3), op(SET, *[self.value(floats) for _ in range(3)]), op(STORE, 3)]])
+        head = r.choice([[], [op(LOAD, r.choice([0, 1, 2]))], [op(ALLOC)], [op(LOAD, 8), op(SET, 5, 7, 1, 0)], [op(LOAD, 8)],
+                         [op(LOAD, 3), op(SET, *[self.value(floats) for _ in range(3)]), op(STORE, 3)], [op(LOAD, 8), op(MOVE, 4)]])
+        self.functions = r.choice([0, 0, 1, 2, 3])
+        tail = []
+        checked = pick >= 0.65
+        for _ in range(self.functions):
+            body, _ = self.block(r.randint(0, 5), 1, checked, floats, 3)
+            tail += [op(FUNCTION)] + body + ([op(LOAD, 1)] if checked else []) + ([op(RETURN)] if r.random() < 0.8 else []) + [op(END)]
+        if r.random() < 0.5:
+            head, tail = tail + head, []
+        elif r.random() < 0.7:
+            tail = ([op(LOAD, 1)] if checked else []) + [op(RETURN)] + tail
         if pick < 0.3:
-            return head + self.soup(n, floats), "soup"
-        if pick < 0.65:
-            return head + self.block(n, 1024, False, floats)[0], "bracketed"
-        return head + self.block(n, 1024, True, floats)[0], "checked"
+            return self.split(head + self.soup(n, floats) + tail), "soup"
+        return self.split(head + self.block(n, 1024, checked, floats)[0] + tail), "checked" if checked else "bracketed"
+
+    @staticmethod
+    def split(ops):
+        """One op an element."""
+        return [o.record for o in model01.read_patch(b"".join(ops))[2]]
 
     def inputs(self):
         r = self.r
@@ -267,7 +313,7 @@ class Maker:
     def sizes(self):
         r = self.r
         return dict(tape=r.choice(TAPES) if r.random() < 0.98 else r.choice([4095, 4096]), inputs=self.inputs(),
-                    room=r.choice([0, 1, 2, 4, 8, 40, 40]), budget=r.choice([0, 1, 2, 5, 20, 100, 100, 300]))
+                    room=r.choice([0, 1, 2, 4, 8, 40, 40]), budget=r.choice([0, 1, 3, 20, 100, 100, 100, 300, 300]))
 
     def dirt(self, values, chance=0.3):
         """Something in a lent slice that a fresh run or the counts leave out."""
@@ -293,13 +339,13 @@ class Maker:
         m = c.machine
         m.position = r.randint(0, len(ops)) if r.random() < 0.5 else 0
         m.halted = int(r.random() < 0.02)
-        m.counted = r.choice([0, 1, len(c.tape), len(c.tape), 29_999, 30_000, 100_000, 100_000, 100_000, 130_000, 200_000])
-        m.pointer = r.choice([0, 0, 0, 1, 2, max(0, len(c.tape) - 1), len(c.tape), 99_999])
+        m.counted = r.choice([0, 1, len(c.tape), len(c.tape), 29_999, 30_000, 100_000, 100_000, 100_000, 100_000, 130_000])
+        m.pointer = r.choice([0, 0, 0, 1, 2, 5, 5, 5, len(c.tape) // 2, max(0, len(c.tape) - 1), len(c.tape), 99_999])
         reach = min(m.counted, len(c.tape))
         for i in range(min(reach, 24)):
             if r.random() < 0.7:
                 c.tape[i] = self.value(floats) if r.random() < 0.6 else r.randrange(12)
-        m.lanes = r.choice([0, 1, 1, 2, 3, 4, 8, 1023, 1024])
+        m.lanes = r.choice([0, 1, 2, 3, 4, 4, 8, 8, 1023, 1024])
         for i in range(min(m.lanes + 2, 12)):
             c.register[i] = self.value(floats)
         places = [i for i, o in enumerate(ops) if o == op(FUNCTION)]

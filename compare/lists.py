@@ -185,6 +185,15 @@ def read(data):
         yield c
 
 
+def split(data):
+    """The cases of a list as bytes."""
+    at = 0
+    while at < len(data):
+        end = at + 4 + struct.unpack_from("<I", data, at)[0]
+        yield data[at:end]
+        at = end
+
+
 def record(kind, payload=b""):
     return struct.pack("<IH", len(payload) + 2, kind) + payload
 
