@@ -714,6 +714,41 @@ def boundary():
             yield checking(op(IF) + op(LOAD, lanes) + op(kind, *held) + op(LOAD, lanes) + op(STORE, 2) + op(END))
 
 
+    yield from telling()
+
+
+def telling():
+    """Where a wrong reading would show: brackets that are left, spaces of input, lanes at the ends of their range."""
+    put = op(PUT, 1)
+    for lane in (0, 1, 2):
+        yield fresh(op(SET, lane) + op(WHILE) + put + op(ELSE) + put + op(END) + put, budget=40, room=40)
+        yield fresh(op(SET, lane) + op(WHILE) + op(IF) + put + op(ELSE) + put + op(END) + op(model01.DEC, 1) + op(END) + put, budget=40)
+        yield fresh(op(SET, lane) + op(IF) + op(WHILE) + op(ELSE) + op(END) + put + op(ELSE) + op(SET, 7) + put + op(END) + put, budget=40)
+        yield fresh(op(SET, lane) + op(FUNCTION) + put + op(END) + op(CALL) + put, budget=40)
+        yield fresh(op(SET, 0) + op(CALL) + op(SET, lane) + op(PUT, 0) + op(FUNCTION) + op(SET, lane) + op(END) + put, budget=20, room=20)
+        yield fresh(op(SET, lane) + op(WHILE) + op(model01.DEC, 1) + put + op(END) + op(END) + put, budget=40)
+        yield fresh(op(ELSE) + op(IF) + op(END) + op(SET, lane) + op(END) + put)
+    for space in (9, 10, 11, 12, 13, 14, 31, 32, 33, 133, 160, 267, 288, 43, 45):
+        yield fresh(op(GET, 1) + op(GET, 1) + op(PUT, 1), inputs=(space, 49, 48), room=2)
+        yield fresh(op(GET, 1) + op(GET, 1), inputs=(49, space, 50, 51))
+    yield fresh(op(GET, 1), inputs=[57] * 25)
+    yield fresh(op(GET, 1) + op(GET, 1) + op(GET, 0), inputs=(47, 58))
+    integers = [0, 1, 7, -7, 2, -2, 63, 64, 1 << 63, WORD, (1 << 63) - 1, 0x123456789ABCDEF]
+    floats = [FLOATS[i] for i in (0, 1, 3, 5, 7, 8, 11, 13, 16, 18, 20, 24)]
+    for kind in sorted(CELL_OPS | LANE_OPS):
+        values = floats if kind >= 259 and kind != model01.TOFLOAT else integers
+        values = [v & WORD for v in values]
+        for turn in range(0, 12, 2):
+            c = state(op(kind, *((-9,) if kind == OFFSET else ()), 12), tape=14)
+            c.register[:12] = values
+            if kind in CELL_OPS:
+                c.tape[1:13] = values[turn:] + values[:turn]
+            elif turn:
+                c.register[:12] = [(v + turn) & WORD for v in values]
+            c.machine.pointer, c.machine.lanes, c.machine.counted = 1, 12, 14
+            yield c
+
+
 # ---- 01's own cases
 
 def paper():
