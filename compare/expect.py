@@ -97,6 +97,10 @@ def smallest(judge):
                 pass
         print("%-22s %-5s %s: %s" % (row, verdict, "as listed" if met else "NOT AS LISTED (%s)" % wanted, lists.patch_words(c.patch)))
         bad += not met
+    for row, c in generate.rusts_own():
+        verdict = next(judged(judge, lists.write(c)))[2]
+        print("%-22s the Rust's answer %s: %s" % (row, "as listed" if verdict == "agree" else "NOT AS LISTED", lists.patch_words(c.patch)))
+        bad += verdict != "agree"
     return bad
 
 

@@ -12,7 +12,7 @@ import struct
 import sys
 
 import model01
-from lists import CHECK, FLATTEN, FRESH, JOIN, RUN, Case, Machine, record, write
+from lists import CHECK, FLATTEN, FRESH, JOIN, RUN, SLICES, Answer, Case, Machine, record, write
 from model01 import (ALLOC, AND, CALL, CELL_OPS, COMMENT, COUNTED, DEREF, ELSE, END, FREE, FUNCTION, GET, GEZ, IF, LANE_OPS, LOAD,
                      MOVE, OFFSET, PEEK, POKE, PUT, REFER, RETURN, SET, SETF, STORE, WHERE, WHILE, WORD)
 
@@ -817,10 +817,35 @@ def smallest():
     yield "device before lane", "err", fresh(op(LOAD, 0) + op(PEEK))
     zero = fresh(op(LOAD, 1) + op(SETF, 0) + op(model01.DIVF, 1), tape=1)
     yield "NaN bits", "agree", zero
-    c = state(op(LOAD, 2), tape=1)
+    c = state(op(LOAD, 1), tape=1)
     c.tape[0] = 1
     yield "lent cells not zero", "dirty", c
     yield "comment bytes", "utf8", fresh(op(COMMENT, b"\xff"))
+
+
+def rusts_own():
+    """(row's name, a case with the answer that docs/DIFFERENCES.md says the Rust gives, where that is not ours)."""
+    def said(c, steps, number, register, **numbers):
+        c.budget = steps
+        c.answer = Answer(number, 0)
+        c.answer.steps = steps
+        for name in SLICES:
+            setattr(c.answer, name, getattr(c, name)[:])
+        m = c.answer.machine = Machine()
+        for name, v in numbers.items():
+            setattr(m, name, v)
+        c.answer.place = m.position
+        c.answer.register[:len(register)] = [v & WORD for v in register]
+        return c
+
+    jump = said(fresh(op(SET, -1) + op(CALL) + op(FUNCTION) + op(END)), 2, 50, [-1], position=1, lanes=1, functions=1, calls=[1])
+    yield "negative call", jump
+    yield "cell skipped", said(fresh(op(AND, 1), tape=2), 1, 0, [0], position=1)
+    yield "cell skipped", said(fresh(op(SET, 1) + op(model01.OR, 1), tape=2), 2, 0, [1], position=2, lanes=1)
+    for kind in (model01.DIV, model01.REM):
+        passed = said(fresh(op(LOAD, 1) + op(kind, 2), tape=2), 2, 0, [0], position=2, lanes=1, counted=100_000)
+        yield "divisor before lane", passed
+    yield "lent tape", said(fresh(op(LOAD, 1)), 1, 0, [0], position=1, lanes=1, counted=100_000)
 
 
 def answered(cases):
