@@ -257,7 +257,7 @@ class Maker:
                     out += a
                 # the End needs a lane, and so may what stands before an Else
                 if checked:
-                    out.insert(len(out), op(SET, r.choice([0, 0, 1]))) if r.random() < 0.3 else out.append(op(LOAD, 1))
+                    out.append(op(SET, r.choice([0, 0, 1])) if r.random() < 0.3 else op(LOAD, 1))
                 out.append(op(END))
                 known = 1
             elif pick < 0.33 and known:
@@ -731,6 +731,15 @@ def telling():
     for space in (9, 10, 11, 12, 13, 14, 31, 32, 33, 133, 160, 267, 288, 43, 45):
         yield fresh(op(GET, 1) + op(GET, 1) + op(PUT, 1), inputs=(space, 49, 48), room=2)
         yield fresh(op(GET, 1) + op(GET, 1), inputs=(49, space, 50, 51))
+    for n in (256, 300):
+        for call in (checking, joining, flattening, fresh):
+            yield call(op(FREE) + op(COMMENT, b"c" * n))
+    # the check: a bracket, a call and a return leave one lane known, also where there were more
+    for lanes in (0, 1, 3):
+        for kind in (FUNCTION, CALL, RETURN, WHILE, IF, ELSE, END):
+            around = op(IF) * (2 if kind == END else 1) + op(LOAD, lanes) + op(kind)
+            yield checking(around + op(STORE, 1) + op(END) * (2 if kind in (FUNCTION, WHILE, IF) else 1))
+            yield checking(around + op(model01.ADD, 2) + op(END))
     yield fresh(op(GET, 1), inputs=[57] * 25)
     yield fresh(op(GET, 1) + op(GET, 1) + op(GET, 0), inputs=(47, 58))
     integers = [0, 1, 7, -7, 2, -2, 63, 64, 1 << 63, WORD, (1 << 63) - 1, 0x123456789ABCDEF]
@@ -815,8 +824,7 @@ def smallest():
     yield "divisor before lane", "went", fresh(op(LOAD, 1) + op(model01.REM, 2), tape=2)
     yield "device before lane", "err", fresh(op(LOAD, 0) + op(GET, 0))
     yield "device before lane", "err", fresh(op(LOAD, 0) + op(PEEK))
-    zero = fresh(op(LOAD, 1) + op(SETF, 0) + op(model01.DIVF, 1), tape=1)
-    yield "NaN bits", "agree", zero
+    yield "NaN bits", "agree", fresh(op(LOAD, 1) + op(SETF, 0) + op(model01.DIVF, 1), tape=1)
     c = state(op(LOAD, 1), tape=1)
     c.tape[0] = 1
     yield "lent cells not zero", "dirty", c
