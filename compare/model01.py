@@ -1,7 +1,8 @@
-"""The machine, the check, joining and flattening as document 01 tells them, written from its text alone: the second judge.
+"""The machine, the check, joining and flattening as document 01 and its readings tell them: the second judge.
 
-It is written to be read beside 01, one rule after the other, and answers every number of 01's table. `answer(case)` gives the
-expected answer of a case of lists.py.
+It is written to be read beside 01, one rule after the other, and answers every number of 01's table. It shares no code with the Rust
+or with our machine, but it was written with the Rust's text known, and the readings had been tried on the Rust: that the two agree is no
+sign that 01 can be read in one way only. `answer(case)` gives the expected answer of a case of lists.py.
 """
 import math
 import struct

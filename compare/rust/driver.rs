@@ -5,7 +5,7 @@
 //! does at that op after agreeing on every step before: `went` on, `err`, `panic`, `hang`, `big` (more room than the judge has).
 //! `port` is an answer that only the port gives (files, 37, 40, the check); `utf8` and `dirty` are cases outside the domain.
 //!
-//! With --raw nothing is looked at before a step: a hang is a hang.
+//! With --raw nothing is looked at before a step or changed after it: a hang is a hang, a NaN has the processor's bits.
 
 mod side_effects;
 mod vm;
@@ -323,6 +323,9 @@ fn step(vm: &mut Vm, code: &StandardProgram, kinds: &[u16], raw: bool, nans: &mu
         Err(_) => return "panic",
         Ok(Err(_)) => return "err",
         Ok(Ok(())) => {}
+    }
+    if raw {
+        return "went";
     }
     // the NaN rule: what the processor gives is compared as a NaN
     if let StandardOp::Add(n) | StandardOp::Sub(n) | StandardOp::Mul(n) | StandardOp::Div(n) | StandardOp::Rem(n) = &code.0[i] {
