@@ -1,3 +1,8 @@
+pub mod Storage
+pub mod ValuesAt
+pub mod TextAt
+pub mod Payload
+pub mod Room
 pub mod Whole
 pub mod Reading
 pub mod Items
@@ -5,3 +10,9 @@ pub mod Rows
 pub mod Meaning
 pub mod Unique
 pub mod Cases
+pub mod Digits
+pub mod Encoded
+pub mod Written
+pub mod RoundTrip
+pub mod BytesBack
+pub mod Rewritten

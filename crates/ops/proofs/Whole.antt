@@ -21,6 +21,8 @@ past false r q k b l n next x e = (refl, e)
 
 -- the whole record at p: its row is k, its payload has l bytes from b on and counts n, and it ends at next
 pub record Tells (s : List ℕ) (p k b l n next : ℕ) : Type 0 where
+  pub numbered : indexOf (u16At s (p + 4)) ≡ k
+  pub sized : u32At s p ≡ l + 2
   pub small : k < 62
   pub body : b ≡ p + 6
   pub size : next ≡ b + l
@@ -74,6 +76,8 @@ tells s p k b l n next e =
     let qx : p + 6 + L ≡ next = cc in
     let qm : modeOf s (shape (kindAt K)) (p + 6) ≡ modeOf s (shape (kindAt k)) b = cc in
     record {
+      numbered = qk;
+      sized = omega (arith, ltb-false (u32At s p) 2 (e₂ .0), ql);
       small = omega (arith, leb-false 62 K (e₄ .0), qk);
       body = sym qb;
       size = omega (arith, qb, ql, qx);

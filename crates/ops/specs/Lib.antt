@@ -6,3 +6,4 @@ pub mod Refusals
 pub mod Record
 pub mod Patch
 pub mod Ops
+pub mod Write
