@@ -1,0 +1,4 @@
+pub mod Stacks
+pub mod Pushes
+pub mod Settled
+pub mod Seen

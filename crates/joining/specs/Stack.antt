@@ -2,7 +2,7 @@
 use Prim.Native.Nat.{ℕ, zero, suc, _<_}
 use mathlib.Core.Path.{_≡_}
 use mathlib.Core.Bool.{Bool, true, false, cond}
-use mathlib.Core.List.{List, [], _∷_, _++_}
+use mathlib.Core.List.{List, [], _∷_}
 use lib.Dec.{eqb}
 use lib.ListN.{length, getD}
 use Rattle.lanes.specs.Int.{intAdd, intGez}
@@ -113,11 +113,6 @@ opWithin s i v = cond (eqb (i .kind) 11) (plain (move v)) (cond (eqb (i .kind) 1
 -- the op that an entry stands for
 abbrev pub opOf : List ℕ → Entry → Op
 opOf s e = opWithin s (itemAt s (e .op)) (e .value)
-
--- the ops that the entries stand for, the first one first
-abbrev pub written : List ℕ → List Entry → List Op
-written s [] = []
-written s (e ∷ st) = written s st ++ (opOf s e ∷ [])
 
 -- each entry is of one of n ops
 abbrev pub Within : ℕ → List Entry → Type 0

@@ -4,7 +4,7 @@ ghost use Prim.Native.Nat.{ℕ, _+_, _<_, _≤_};
 ghost use lib.ListN.{length};
 ghost use Rattle.ops.specs.Storage.{fill};
 ghost use Rattle.ops.specs.Write.{le64, placed, encode, encodeAll, Below};
-ghost use Rattle.joining.specs.Stack.{valued, Holds, Within, stack, itemAt, opWithin, written};
+ghost use Rattle.joining.specs.Stack.{valued, Holds, Within, stack, itemAt, opWithin, opOf};
 use ops::bytes::u32_at;
 use ops::writer::copy_bytes;
 use ops::writer::put_u32;
