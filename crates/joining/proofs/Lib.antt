@@ -2,3 +2,4 @@ pub mod Stacks
 pub mod Pushes
 pub mod Settled
 pub mod Seen
+pub mod Records

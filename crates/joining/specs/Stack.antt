@@ -2,7 +2,7 @@
 use Prim.Native.Nat.{ℕ, zero, suc, _<_}
 use mathlib.Core.Path.{_≡_}
 use mathlib.Core.Bool.{Bool, true, false, cond}
-use mathlib.Core.List.{List, [], _∷_}
+use mathlib.Core.List.{List, [], _∷_, map, reverse}
 use lib.Dec.{eqb}
 use lib.ListN.{length, getD}
 use Rattle.lanes.specs.Int.{intAdd, intGez}
@@ -10,6 +10,7 @@ use Rattle.ops.specs.Bytes.{u64At}
 use Rattle.ops.specs.Patch.{Item, item, patchOf}
 use Rattle.ops.specs.Ops.{opAt}
 use Rattle.ops.specs.Op.{Op}
+use Rattle.ops.specs.Write.{encodeAll}
 use Rattle.ops.specs.Op.Plain.{move}
 use Rattle.ops.specs.Op.Sort.{ints}
 use Rattle.ops.specs.Op.Op.{set, plain}
@@ -113,6 +114,10 @@ opWithin s i v = cond (eqb (i .kind) 11) (plain (move v)) (cond (eqb (i .kind) 1
 -- the op that an entry stands for
 abbrev pub opOf : List ℕ → Entry → Op
 opOf s e = opWithin s (itemAt s (e .op)) (e .value)
+
+-- the file of the ops that the entries stand for, the first one first
+unfoldable pub file : List ℕ → List Entry → List ℕ
+file s st = encodeAll (reverse (map (opOf s) st))
 
 -- each entry is of one of n ops
 abbrev pub Within : ℕ → List Entry → Type 0
