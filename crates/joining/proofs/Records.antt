@@ -2,7 +2,7 @@
 -- another. Assumes nothing.
 use mathlib.Core.Path.{_≡_, refl, ap, ap₂, sym, _∙_}
 use Prim.Native.Nat.{ℕ, zero, suc, _+_, _-_, _/_, _%_, _<_, _≤_}
-use native.Mathlib.Nat.{not-suc-le-zero, zero-add, add-zero, le-refl}
+use native.Mathlib.Nat.{not-suc-le-zero, zero-add, add-zero, le-refl, le-antisymm}
 use native.Mathlib.Numerals.{add-one}
 use native.Mathlib.Omega.{arith}
 use mathlib.Core.Bool.{Bool, true, false, cond}
@@ -24,11 +24,12 @@ use Rattle.ops.specs.Op.Op.{set, plain}
 use Rattle.ops.specs.Write.{le16, le32, le64, recordOf, valueBytes, encode, encodeAll, placed, Below}
 use Rattle.ops.proofs.TextAt.{length-text}
 use Rattle.ops.proofs.BytesBack.{text-add}
-use Rattle.ops.proofs.Storage.{placed-then}
+use Rattle.ops.proofs.Digits.{length-le64}
+use Rattle.ops.proofs.Storage.{placed-then, placed-none}
 use Rattle.ops.proofs.Whole.{tells}
 use Rattle.ops.proofs.Items.{IsItem}
 use Rattle.ops.proofs.Rewritten.{record-again}
-use Rattle.joining.specs.Stack.{Entry, entry, valued, itemAt, Holds, opWithin, opOf, stack, file, Within}
+use Rattle.joining.specs.Stack.{Entry, entry, valued, valueOf, pushOn, itemAt, Holds, after, opWithin, opOf, stack, file, Within}
 use Rattle.joining.proofs.Seen.{is-item}
 
 -- ---- an op of the file
@@ -160,6 +161,79 @@ module _ (s ks ns ps : List ℕ) (n : ℕ) (h : Holds s ks ns ps n) (i : ℕ) (l
         let q : valued (itemAt s i .kind) (itemAt s i .count) ≡ true = rw (h .kinds i l, h .counts i l) at e in
         rw (h .places i l) (within-changed s (itemAt s i) d v w q)
 
+-- ---- one op, as the code writes it
+
+-- k, c and p are the kind, the count and the place of op i
+module _ (s ks ns ps out : List ℕ) (n i v at k c p : ℕ)
+    (g : Below 256 s × (Holds s ks ns ps n × ((i < n) × (at + length (encode (opOf s (entry i v))) ≤ length out))))
+    (ek : k ≡ getD ks i 0) (ec : c ≡ getD ns i 0) (ep : p ≡ getD ps i 0) where
+  abbrev new : List ℕ
+  new = encode (opOf s (entry i v))
+
+  pub has-head : 6 ≤ p
+  has-head = rw ep (place-after s ks ns ps n (g .1 .0) i (g .1 .1 .0))
+
+  pub has-length : p - 6 + 4 ≤ length s
+  has-length = let e = head-within s ks ns ps n (g .1 .0) i (g .1 .1 .0) in rw ep (omega arith)
+
+  module _ (t : valued k c ≡ true) where
+    same-changed : new ≡ textAt s (p - 6) 6 ++ le64 v
+    same-changed = rw ep (record-changed s ks ns ps n (g .1 .0) i (g .1 .1 .0) v (g .0) (rw (ek, ec) at t))
+
+    long-changed : length new ≡ 14
+    long-changed =
+        let l : length (textAt s (p - 6) 6) ≡ 6 = length-text s (p - 6) 6 (rw ep (head-within s ks ns ps n (g .1 .0) i (g .1 .1 .0))) in
+        ap length same-changed ∙ length-append (textAt s (p - 6) 6) (le64 v) ∙ ap₂ (λ (a b : ℕ). a + b) l (length-le64 v)
+
+    pub asks-head : (at + 6 ≤ length out) × (p - 6 + 6 ≤ length s)
+    asks-head =
+        let r = g .1 .1 .1 in
+        (omega (arith, r, long-changed), rw ep (head-within s ks ns ps n (g .1 .0) i (g .1 .1 .0)))
+
+    pub asks-eight : at + 6 + 8 ≤ length out
+    asks-eight = let r = g .1 .1 .1 in omega (arith, r, long-changed)
+
+    pub wrote-changed : (a b : List ℕ) → a ≡ placed out at (textAt s (p - 6) 6) → b ≡ placed a (at + 6) (le64 v)
+        → (at + 14 ≡ at + length new) × (b ≡ placed out at new)
+    wrote-changed a b e f =
+        let l : length (textAt s (p - 6) 6) ≡ 6 = length-text s (p - 6) 6 (asks-head .1) in
+        (ap (λ (j : ℕ). at + j) (sym long-changed),
+        f
+        ∙ ap (λ (o : List ℕ). placed o (at + 6) (le64 v)) e
+        ∙ placed-then out at (textAt s (p - 6) 6) (le64 v) (at + 6) (ap (λ (j : ℕ). at + j) l) (asks-head .0)
+        ∙ ap (placed out at) (sym same-changed))
+
+  module _ (t : valued k c ≡ false) (u : ℕ) (eu : u ≡ u32At s (p - 6)) where
+    same-kept : new ≡ textAt s (p - 6) (u + 4)
+    same-kept = rw (eu, ep) (record-kept s ks ns ps n (g .1 .0) i (g .1 .1 .0) v (g .0) (rw (ek, ec) at t))
+
+    fits-kept : p - 6 + (u + 4) ≤ length s
+    fits-kept = rw (eu, ep) (record-within s ks ns ps n (g .1 .0) i (g .1 .1 .0))
+
+    long-kept : length new ≡ u + 4
+    long-kept = ap length same-kept ∙ length-text s (p - 6) (u + 4) fits-kept
+
+    pub asks-record : (at + (u + 4) ≤ length out) × (p - 6 + (u + 4) ≤ length s)
+    asks-record = let r = g .1 .1 .1 in (omega (arith, r, long-kept), fits-kept)
+
+    pub wrote-kept : (a : List ℕ) → a ≡ placed out at (textAt s (p - 6) (u + 4)) → (at + (u + 4) ≡ at + length new) × (a ≡ placed out at new)
+    wrote-kept a e = (ap (λ (j : ℕ). at + j) (sym long-kept), e ∙ ap (placed out at) (sym same-kept))
+
+-- ---- one push after another
+
+module _ (s ks ns ps : List ℕ) (n : ℕ) (h : Holds s ks ns ps n) (i : ℕ) (l : i < n) (k c p : ℕ)
+    (ek : k ≡ getD ks i 0) (ec : c ≡ getD ns i 0) (ep : p ≡ getD ps i 0) where
+  pub asks-value : valued k c ≡ true → p + 8 ≤ length s
+  asks-value t = rw ep (value-within s ks ns ps n h i l (rw (ek, ec) at t))
+
+  pub after-more : (v : ℕ) (st st′ : List Entry) → v ≡ valueOf s k c p → st ≡ after s ks ns i → st′ ≡ pushOn ks ns st (entry i v) → st′ ≡ after s ks ns (i + 1)
+  after-more v st st′ e f q =
+      let w : v ≡ valueOf s (itemAt s i .kind) (itemAt s i .count) (itemAt s i .place) = rw (ek, ec, ep, h .kinds i l, h .counts i l, h .places i l) at e in
+      rw add-one (q ∙ ap (λ (a : List Entry). pushOn ks ns a (entry i v)) f ∙ ap (λ (j : ℕ). pushOn ks ns (after s ks ns i) (entry i j)) w)
+
+pub after-all : (s ks ns : List ℕ) (i n : ℕ) (st : List Entry) → i ≤ n → n ≤ i → st ≡ after s ks ns i → st ≡ after s ks ns n
+after-all s ks ns i n st a b e = e ∙ ap (after s ks ns) (le-antisymm a b)
+
 -- ---- one entry after another
 
 pub encode-all-append : (a b : List Op) → encodeAll (a ++ b) ≡ encodeAll a ++ encodeAll b
@@ -207,3 +281,30 @@ module _ (s is vs : List ℕ) where
         where
           below : (a b : ℕ) → a < suc b → (a ≡ b → ⊥) → a < b
           below a b x y = omega arith
+
+  -- ---- the turns of the loop
+
+  module _ (out₀ : List ℕ) where
+    pub none-written : (0 ≡ length (written 0)) × (out₀ ≡ placed out₀ 0 (written 0))
+    unfolding file encodeAll
+    none-written = (refl, placed-none out₀ 0)
+
+    pub more-written : (j at r : ℕ) (out out′ : List ℕ) → at ≡ length (written j) → out ≡ placed out₀ 0 (written j) → length (written j) ≤ length out₀
+        → r ≡ at + length (encode (opOf s (entry (getD is j 0) (getD vs j 0))))
+        → out′ ≡ placed out at (encode (opOf s (entry (getD is j 0) (getD vs j 0))))
+        → (r ≡ length (written (j + 1))) × (out′ ≡ placed out₀ 0 (written (j + 1)))
+    more-written j at r out out′ a b h e f =
+        let x = encode (opOf s (entry (getD is j 0) (getD vs j 0))) in
+        let m = written-more j in
+        (e ∙ ap (λ (q : ℕ). q + length x) a ∙ sym (length-append (written j) x) ∙ ap length (sym m),
+        f
+        ∙ ap (λ (o : List ℕ). placed o at x) b
+        ∙ placed-then out₀ 0 (written j) x at (zero-add (length (written j)) ∙ sym a) (rw a h)
+        ∙ ap (placed out₀ 0) (sym m))
+
+    pub all-written : (j n at : ℕ) (out : List ℕ) → j ≤ n → n ≤ j → at ≡ length (written j) → out ≡ placed out₀ 0 (written j)
+        → (at ≡ length (written n)) × (out ≡ fill (written n) out₀)
+    unfolding fill placed
+    all-written j n at out a b e f =
+        let q : j ≡ n = le-antisymm a b in
+        (e ∙ ap (λ (k : ℕ). length (written k)) q, f ∙ rw zero-add (ap (λ (k : ℕ). written k ++ drop (length (written k)) out₀) q))

@@ -1,3 +1,4 @@
+use mathlib.Core.Path.{sym, _∙_}
 use borrow.Author.Tests.{not-true, not-false}
 use Rattle.joining.specs.Stack.{valueOf}
 use borrow.Author.Needs.{needs}
@@ -19,7 +20,7 @@ returns c = simp (not-true (c .before .has-value .result) (c .if1 .taken), ← (
 
 -- src/write.rt:53:5
 u64-at-requires : tie.Need-u64-at-requires
-u64-at-requires c κs = ?
+u64-at-requires c κs = c .before .before .before .pre (sym (c .before .has-value .ensures) ∙ not-false (c .before .has-value .result) (c .if1 .left))
 
 -- src/write.rt:46:1
 returns-2 : tie.Need-returns-2
