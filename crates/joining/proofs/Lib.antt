@@ -3,3 +3,5 @@ pub mod Pushes
 pub mod Settled
 pub mod Seen
 pub mod Records
+pub mod Sizes
+pub mod Files

@@ -29,7 +29,7 @@ op-move (last ∷ st) new e = rw e (by (eqb (kindOf last) 11) (eqb (total last n
 
 -- ---- which rules there are
 
-both-true : (a b : Bool) → (a && b) ≡ true → (a ≡ true) × (b ≡ true)
+pub both-true : (a b : Bool) → (a && b) ≡ true → (a ≡ true) × (b ≡ true)
 both-true true b e = (refl, e)
 both-true false b e = let z : _≡_ {A = ℕ} 0 1 = cc in absurd (omega arith)
 

@@ -14,12 +14,6 @@ use Rattle.joining.specs.declared.stack.Met.{Met}
 use Rattle.joining.specs.declared.stack.Met.the-variants.{Push, Skip, Pop, Again, Test, Under, Sum}
 use Rattle.joining.specs.Stack.{Entry, entry, meet, met, movedOn, reactOn, pushOn, stack}
 
--- beyond the last entry
-pub getD-beyond : (l : List ℕ) (i : ℕ) → length l ≤ i → getD l i 0 ≡ 0
-getD-beyond [] i h = refl
-getD-beyond (x ∷ l) zero h = absurd (not-suc-le-zero h)
-getD-beyond (x ∷ l) (suc i) h = getD-beyond l i (omega arith)
-
 -- stores beyond the stack
 stack-set : (is vs : List ℕ) (j a v n : ℕ) → n ≤ j → stack (set is j a) (set vs j v) n ≡ stack is vs n
 stack-set is vs j a v zero h = refl

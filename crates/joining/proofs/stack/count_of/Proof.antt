@@ -1,6 +1,6 @@
 use borrow.Author.Needs.{needs}
 use mathlib.Core.Path.{sym}
-use Rattle.joining.proofs.Stacks.{getD-beyond}
+use lib.ListN.{List·getD-eq-default}
 use Rattle.joining.proofs.stack.count_of.Statement.{statement}
 use Rattle.joining.proofs.stack.count_of.Tie as tie
 use Rattle.joining.proofs.stack.count_of.Reads as reads
@@ -8,7 +8,7 @@ use Rattle.joining.proofs.stack.count_of.Lts as lts
 
 -- src/stack.rt:126:9
 returns : tie.Need-returns
-returns c = sym (getD-beyond (c .before .args .counts .now) (c .before .args .i) (c .if1 .taken))
+returns c = sym (List·getD-eq-default (c .before .args .counts .now) 0 (c .if1 .taken))
 
 -- src/stack.rt:128:5
 mul-result : tie.Need-mul-result

@@ -1,6 +1,6 @@
 use borrow.Author.Needs.{needs}
 use mathlib.Core.Path.{sym}
-use Rattle.joining.proofs.Stacks.{getD-beyond}
+use lib.ListN.{List·getD-eq-default}
 use Rattle.joining.proofs.stack.kind_of.Statement.{statement}
 use Rattle.joining.proofs.stack.kind_of.Tie as tie
 use Rattle.joining.proofs.stack.kind_of.Reads as reads
@@ -8,7 +8,7 @@ use Rattle.joining.proofs.stack.kind_of.Lts as lts
 
 -- src/stack.rt:117:9
 returns : tie.Need-returns
-returns c = sym (getD-beyond (c .before .args .kinds .now) (c .before .args .i) (c .if1 .taken))
+returns c = sym (List·getD-eq-default (c .before .args .kinds .now) 0 (c .if1 .taken))
 
 -- src/stack.rt:119:5
 shared-slice-read-result : tie.Need-shared-slice-read-result

@@ -1,6 +1,6 @@
 use borrow.Author.Needs.{needs}
 use mathlib.Core.Path.{sym}
-use Rattle.joining.proofs.Stacks.{getD-beyond}
+use lib.ListN.{List·getD-eq-default}
 use Rattle.joining.proofs.write.place_of.Statement.{statement}
 use Rattle.joining.proofs.write.place_of.Tie as tie
 use Rattle.joining.proofs.write.place_of.Reads as reads
@@ -9,7 +9,7 @@ use Rattle.joining.proofs.write.wide.Reads as wide-reads
 
 -- src/write.rt:27:9
 returns : tie.Need-returns
-returns c = sym (getD-beyond (c .before .before .args .places .now) (c .before .before .args .i) (c .if1 .taken))
+returns c = sym (List·getD-eq-default (c .before .before .args .places .now) 0 (c .if1 .taken))
 
 -- src/write.rt:29:10
 mul-wide : tie.Need-mul-wide
