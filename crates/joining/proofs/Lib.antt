@@ -5,3 +5,5 @@ pub mod Seen
 pub mod Records
 pub mod Sizes
 pub mod Files
+pub mod Fitting
+pub mod Again

@@ -196,12 +196,13 @@ module _ (s ks ns ps out : List ℕ) (n i v at k c p : ℕ)
     pub wrote-changed : (a b : List ℕ) → a ≡ placed out at (textAt s (p - 6) 6) → b ≡ placed a (at + 6) (le64 v)
         → (at + 14 ≡ at + length new) × (b ≡ placed out at new)
     wrote-changed a b e f =
-        let l : length (textAt s (p - 6) 6) ≡ 6 = length-text s (p - 6) 6 (asks-head .1) in
-        (ap (λ (j : ℕ). at + j) (sym long-changed),
-        f
-        ∙ ap (λ (o : List ℕ). placed o (at + 6) (le64 v)) e
-        ∙ placed-then out at (textAt s (p - 6) 6) (le64 v) (at + 6) (ap (λ (j : ℕ). at + j) l) (asks-head .0)
-        ∙ ap (placed out at) (sym same-changed))
+        let l : length (textAt s (p - 6) 6) ≡ 6 = length-text s (p - 6) 6 (asks-head .1) in (
+          ap (λ (j : ℕ). at + j) (sym long-changed),
+          f
+              ∙ ap (λ (o : List ℕ). placed o (at + 6) (le64 v)) e
+              ∙ placed-then out at (textAt s (p - 6) 6) (le64 v) (at + 6) (ap (λ (j : ℕ). at + j) l) (asks-head .0)
+              ∙ ap (placed out at) (sym same-changed),
+        )
 
   module _ (t : valued k c ≡ false) (u : ℕ) (eu : u ≡ u32At s (p - 6)) where
     same-kept : new ≡ textAt s (p - 6) (u + 4)
@@ -295,12 +296,13 @@ module _ (s is vs : List ℕ) where
         → (r ≡ length (written (j + 1))) × (out′ ≡ placed out₀ 0 (written (j + 1)))
     more-written j at r out out′ a b h e f =
         let x = encode (opOf s (entry (getD is j 0) (getD vs j 0))) in
-        let m = written-more j in
-        (e ∙ ap (λ (q : ℕ). q + length x) a ∙ sym (length-append (written j) x) ∙ ap length (sym m),
-        f
-        ∙ ap (λ (o : List ℕ). placed o at x) b
-        ∙ placed-then out₀ 0 (written j) x at (zero-add (length (written j)) ∙ sym a) (rw a h)
-        ∙ ap (placed out₀ 0) (sym m))
+        let m = written-more j in (
+          e ∙ ap (λ (q : ℕ). q + length x) a ∙ sym (length-append (written j) x) ∙ ap length (sym m),
+          f
+              ∙ ap (λ (o : List ℕ). placed o at x) b
+              ∙ placed-then out₀ 0 (written j) x at (zero-add (length (written j)) ∙ sym a) (rw a h)
+              ∙ ap (placed out₀ 0) (sym m),
+        )
 
     pub all-written : (j n at : ℕ) (out : List ℕ) → j ≤ n → n ≤ j → at ≡ length (written j) → out ≡ placed out₀ 0 (written j)
         → (at ≡ length (written n)) × (out ≡ fill (written n) out₀)

@@ -170,8 +170,24 @@ module _ (y x : Op) (yk yn yv xk xn xv : ℕ) (iy : Is y yk yn yv) (ix : Is x xk
       → Agree x yk yn (rule y x) (meet yk yn yv xk xn xv)
   unfolding rule meet
   at-other a b c d e f g h =
-      rw (other 11 (omega arith) a, other 1 (omega arith) b, other 14 (omega arith) c, other 8 (omega arith) d, other 16 (omega arith) e, other 9 (omega arith) f, other 10 (omega arith) g, other 37 (omega arith) h,
-      ne-eqb xk 11 a, ne-eqb xk 1 b, ne-eqb xk 14 c, ne-eqb xk 8 d, ne-eqb xk 16 e, ne-eqb xk 9 f, ne-eqb xk 10 g, ne-eqb xk 37 h)
+      rw (
+        other 11 (omega arith) a,
+        other 1 (omega arith) b,
+        other 14 (omega arith) c,
+        other 8 (omega arith) d,
+        other 16 (omega arith) e,
+        other 9 (omega arith) f,
+        other 10 (omega arith) g,
+        other 37 (omega arith) h,
+        ne-eqb xk 11 a,
+        ne-eqb xk 1 b,
+        ne-eqb xk 14 c,
+        ne-eqb xk 8 d,
+        ne-eqb xk 16 e,
+        ne-eqb xk 9 f,
+        ne-eqb xk 10 g,
+        ne-eqb xk 37 h,
+      )
       pushes-it
 
   split : (c : ℕ) (A : Type 0) → (xk ≡ c → A) → ((xk ≡ c → ⊥) → A) → A
@@ -354,13 +370,15 @@ module _ (s ks ns ps : List ℕ) (n : ℕ) (h : Holds s ks ns ps n) where
       let c : i < length (patchOf s .items) = omega (arith, b, h .many) in
       let p = push-seen (after s ks ns i) (entryAt s i) (k .1) b in
       let o = opAt s (itemAt s i) in
-      let q : opOf s (entryAt s i) ≡ o = own-value s (itemAt s i) (is-item i b) in
-      (ap (λ (l : List Item). pushes [] (map (opAt s) l)) (take-suc (patchOf s .items) i (item 0 0 0) c)
-      ∙ ap (pushes []) (map-append (opAt s) (take i (patchOf s .items)) (itemAt s i ∷ []))
-      ∙ pushes-snoc (map (opAt s) (take i (patchOf s .items))) [] o
-      ∙ ap (λ (os : List Op). op os o) (k .0)
-      ∙ ap (op (ops-of (after s ks ns i))) (sym q)
-      ∙ p .0, p .1)
+      let q : opOf s (entryAt s i) ≡ o = own-value s (itemAt s i) (is-item i b) in (
+        ap (λ (l : List Item). pushes [] (map (opAt s) l)) (take-suc (patchOf s .items) i (item 0 0 0) c)
+            ∙ ap (pushes []) (map-append (opAt s) (take i (patchOf s .items)) (itemAt s i ∷ []))
+            ∙ pushes-snoc (map (opAt s) (take i (patchOf s .items))) [] o
+            ∙ ap (λ (os : List Op). op os o) (k .0)
+            ∙ ap (op (ops-of (after s ks ns i))) (sym q)
+            ∙ p .0,
+        p .1,
+      )
 
   -- the stack after all ops stands for the patch joined
   pub joined-seen : (join (map (opAt s) (patchOf s .items)) ≡ reverse (ops-of (after s ks ns n))) × Within n (after s ks ns n)

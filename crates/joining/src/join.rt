@@ -64,7 +64,25 @@ pub fn join(bytes: &[u8], out: &mut [u8]) -> Joined
     }
     let mut ops = [0usize; 4096];
     let mut values = [0u64; 4096];
-    let n = push_all(bytes, &kinds, &counts, &places, place, &mut ops, &mut values);
-    let len = write_all(bytes, &kinds, &counts, &places, place, &ops, &values, n, out);
+    let n = push_all(
+        bytes,
+        &kinds,
+        &counts,
+        &places,
+        place,
+        &mut ops,
+        &mut values,
+    );
+    let len = write_all(
+        bytes,
+        &kinds,
+        &counts,
+        &places,
+        place,
+        &ops,
+        &values,
+        n,
+        out,
+    );
     Joined::Written(n, len)
 }

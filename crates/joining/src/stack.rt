@@ -138,7 +138,14 @@ pub fn put(ops: &mut [usize], values: &mut [u64], n: usize, i: usize, v: u64) ->
 }
 
 // The push of a move.
-pub fn put_move(kinds: &[u8], ops: &mut [usize], values: &mut [u64], n: usize, i: usize, v: u64) -> usize
+pub fn put_move(
+    kinds: &[u8],
+    ops: &mut [usize],
+    values: &mut [u64],
+    n: usize,
+    i: usize,
+    v: u64,
+) -> usize
     requires { ⌜ (n < length (now ops)) × (n < length (now values)) ⌝ }
     ensures { λ r. ⌜ (r ≤ n + 1) × (stack (now (ops .exit)) (now (values .exit)) r ≡ movedOn (now (kinds .entry)) (stack (now (ops .entry)) (now (values .entry)) n) (entry i v)) ⌝ }
 {
@@ -159,7 +166,15 @@ pub fn put_move(kinds: &[u8], ops: &mut [usize], values: &mut [u64], n: usize, i
 }
 
 // The push of op i with the value v on the n entries; how many there are then.
-pub fn push(kinds: &[u8], counts: &[u16], ops: &mut [usize], values: &mut [u64], n: usize, i: usize, v: u64) -> usize
+pub fn push(
+    kinds: &[u8],
+    counts: &[u16],
+    ops: &mut [usize],
+    values: &mut [u64],
+    n: usize,
+    i: usize,
+    v: u64,
+) -> usize
     requires { ⌜ (n < length (now ops)) × (n < length (now values)) ⌝ }
     ensures { λ r. ⌜ (r ≤ n + 1) × (stack (now (ops .exit)) (now (values .exit)) r ≡ pushOn (now (kinds .entry)) (now (counts .entry)) (stack (now (ops .entry)) (now (values .entry)) n) (entry i v)) ⌝ }
 {

@@ -108,7 +108,17 @@ pub fn write_all(
     let mut j = 0;
     let mut at = 0;
     while j < n {
-        at = write_op(bytes, kinds, counts, places, count, ops[j], values[j], out, at);
+        at = write_op(
+            bytes,
+            kinds,
+            counts,
+            places,
+            count,
+            ops[j],
+            values[j],
+            out,
+            at,
+        );
         j += 1;
     }
     at

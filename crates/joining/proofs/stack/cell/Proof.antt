@@ -1,26 +1,21 @@
+-- `joining::stack::cell` meets its contract. Assumes nothing.
 use borrow.Author.Tests.{eq-eqb, ne-eqb}
 use Rattle.joining.specs.Stack.{cells}
 use Rattle.joining.proofs.stack.cell.Statement.{statement}
 use Rattle.joining.proofs.stack.cell.Tie as tie
-use Rattle.joining.proofs.stack.cell.Reads as reads
-use Rattle.joining.proofs.stack.cell.Lts as lts
 
--- src/stack.rt:28:9
 returns : tie.Need-returns
 unfolding cells
 returns c = simp (ne-eqb _ _ (c .if1 .taken))
 
--- src/stack.rt:31:9
 returns-2 : tie.Need-returns-2
 unfolding cells
 returns-2 c = simp (eq-eqb _ _ (c .before .if1 .left), eq-eqb _ _ (c .if2 .taken))
 
--- src/stack.rt:34:9
 returns-3 : tie.Need-returns-3
 unfolding cells
 returns-3 c = simp (eq-eqb _ _ (c .before .before .if1 .left), ne-eqb _ _ (c .before .if2 .left), eq-eqb _ _ (c .if3 .taken))
 
--- src/stack.rt:24:1
 returns-4 : tie.Need-returns-4
 unfolding cells
 returns-4 c = simp (eq-eqb _ _ (c .before .before .if1 .left), ne-eqb _ _ (c .before .if2 .left), ne-eqb _ _ (c .if3 .left))

@@ -1,21 +1,17 @@
+-- `joining::write::has_value` meets its contract. Assumes nothing.
 use borrow.Author.Tests.{eq-eqb, ne-eqb}
 use Rattle.joining.specs.Stack.{valued}
 use Rattle.joining.proofs.write.has_value.Statement.{statement}
 use Rattle.joining.proofs.write.has_value.Tie as tie
-use Rattle.joining.proofs.write.has_value.Reads as reads
-use Rattle.joining.proofs.write.has_value.Lts as lts
 
--- src/write.rt:17:9
 returns : tie.Need-returns
 unfolding valued
 returns c = simp (eq-eqb _ _ (c .if1 .taken))
 
--- src/write.rt:20:9
 returns-2 : tie.Need-returns-2
 unfolding valued
 returns-2 c = simp (ne-eqb _ _ (c .before .if1 .left), eq-eqb _ _ (c .if2 .taken))
 
--- src/write.rt:13:1
 returns-3 : tie.Need-returns-3
 unfolding valued
 returns-3 c = simp (ne-eqb _ _ (c .before .if1 .left), ne-eqb _ _ (c .if2 .left))

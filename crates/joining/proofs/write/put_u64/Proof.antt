@@ -1,3 +1,4 @@
+-- `joining::write::put_u64` meets its contract. Assumes nothing.
 use Prim.Native.Nat.{_+_, _≤_}
 use mathlib.Core.Path.{refl, _∙_}
 use native.Mathlib.Omega.{arith}
@@ -7,27 +8,7 @@ use Rattle.ops.proofs.Storage.{placed-then}
 use borrow.Author.Needs.{needs}
 use Rattle.joining.proofs.write.put_u64.Statement.{statement}
 use Rattle.joining.proofs.write.put_u64.Tie as tie
-use Rattle.joining.proofs.write.put_u64.Reads as reads
-use Rattle.joining.proofs.write.put_u64.Lts as lts
-use Rattle.ops.proofs.writer.put_u32.Reads as put-u32-reads
 
--- src/write.rt:61:5
-put-u32-requires : tie.Need-put-u32-requires
-put-u32-requires c κs = search needs
-
--- src/write.rt:62:18
-add-put-u32 : tie.Need-add-put-u32
-add-put-u32 c = search needs
-
--- src/write.rt:62:5
-put-u32-requires-2 : tie.Need-put-u32-requires-2
-put-u32-requires-2 c κs = search needs
-
--- src/write.rt:56:1
-same-length : tie.Need-same-length
-same-length c = search needs
-
--- src/write.rt:56:1
 returns : tie.Need-returns
 unfolding le64 le32 le16
 returns c =
@@ -37,4 +18,4 @@ returns c =
 
 pub put-u64-spec : {M : Type 1} → statement M
 put-u64-spec =
-    tie.close (tie.spec put-u32-requires add-put-u32 put-u32-requires-2 same-length returns)
+    tie.close (tie.spec (λ c κs. search needs) (λ c. search needs) (λ c κs. search needs) (λ c. search needs) returns)

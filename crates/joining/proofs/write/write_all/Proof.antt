@@ -1,3 +1,4 @@
+-- `joining::write::write_all` meets its contract. Assumes nothing.
 use Prim.Native.Nat.{_≤_, _-_, zero-le}
 use mathlib.Core.Path.{_≡_, refl}
 use native.Mathlib.Omega.{arith}
@@ -8,9 +9,6 @@ use Rattle.joining.specs.Stack.{stack, file}
 use Rattle.joining.proofs.Records.{none-written, more-written, all-written, written-room, within-at}
 use Rattle.joining.proofs.write.write_all.Statement.{statement}
 use Rattle.joining.proofs.write.write_all.Tie as tie
-use Rattle.joining.proofs.write.write_all.Reads as reads
-use Rattle.joining.proofs.write.write_all.Lts as lts
-use Rattle.joining.proofs.write.write_op.Reads as write-op-reads
 
 abbrev Inv-loop : tie.InvT-loop
 Inv-loop bytes kinds counts places count ops values n out₀ j₀ at₀ out j at =
@@ -19,29 +17,11 @@ Inv-loop bytes kinds counts places count ops values n out₀ j₀ at₀ out j at
 abbrev μ-loop : tie.MeasureT-loop
 μ-loop bytes kinds counts places count ops values n out₀ j₀ at₀ out j at = n - j
 
--- src/write.rt:110:5
 loop-holds : tie.Need-loop-holds Inv-loop μ-loop
 loop-holds c =
     let z = none-written (c .before .before .before .before .before .before .before .args .bytes .now) (c .before .before .before .before .before .before .before .args .ops .now) (c .before .before .before .before .before .before .before .args .values .now) (c .before .before .before .before .before .before .before .args .out .now) in
     (zero-le, z .0, z .1, refl)
 
--- src/write.rt:111:60
-mul-write-op : tie.Need-mul-write-op Inv-loop μ-loop
-mul-write-op c = search needs
-
--- src/write.rt:111:60
-shared-slice-read-write-op : tie.Need-shared-slice-read-write-op Inv-loop μ-loop
-shared-slice-read-write-op c = search needs
-
--- src/write.rt:111:68
-mul-write-op-2 : tie.Need-mul-write-op-2 Inv-loop μ-loop
-mul-write-op-2 c = search needs
-
--- src/write.rt:111:68
-shared-slice-read-write-op-2 : tie.Need-shared-slice-read-write-op-2 Inv-loop μ-loop
-shared-slice-read-write-op-2 c = search needs
-
--- src/write.rt:111:9
 write-op-requires : tie.Need-write-op-requires Inv-loop μ-loop
 write-op-requires c κs =
     let g = c .before .before .before .before .before .before .before .before .before .before .before .before .pre in
@@ -49,15 +29,6 @@ write-op-requires c κs =
     let m = written-room (c .before .before .before .before .before .before .before .before .before .before .before .before .args .bytes .now) (c .before .before .before .before .before .before .before .before .before .before .before .before .args .ops .now) (c .before .before .before .before .before .before .before .before .before .before .before .before .args .values .now) (c .before .before .before .before .loop .j) (c .before .before .before .before .before .before .before .before .before .before .before .before .args .n) (c .before .before .before .loop-test .taken) in
     (g .0, (g .1 .0, (within-at (c .before .before .before .before .before .before .before .before .before .before .before .before .args .bytes .now) (c .before .before .before .before .before .before .before .before .before .before .before .before .args .ops .now) (c .before .before .before .before .before .before .before .before .before .before .before .before .args .values .now) (c .before .before .before .before .before .before .before .before .before .before .before .before .args .count) (c .before .before .before .before .before .before .before .before .before .before .before .before .args .n) (c .before .before .before .before .loop .j) (g .1 .1 .0) (c .before .before .before .loop-test .taken), omega (arith, m, i .1, i .3, g .1 .1 .1 .1 .1))))
 
--- src/write.rt:112:9
-add-j : tie.Need-add-j Inv-loop μ-loop
-add-j c = search needs
-
--- src/write.rt:110:5
-loop-less : tie.Need-loop-less Inv-loop μ-loop
-loop-less c = search needs
-
--- src/write.rt:110:5
 loop-again : tie.Need-loop-again Inv-loop μ-loop
 loop-again c =
     let g = c .before .before .before .before .before .before .before .before .before .before .before .before .before .before .before .pre in
@@ -66,11 +37,6 @@ loop-again c =
     let e = more-written (c .before .before .before .before .before .before .before .before .before .before .before .before .before .before .before .args .bytes .now) (c .before .before .before .before .before .before .before .before .before .before .before .before .before .before .before .args .ops .now) (c .before .before .before .before .before .before .before .before .before .before .before .before .before .before .before .args .values .now) (c .before .before .before .before .before .before .before .before .before .before .before .before .before .before .before .args .out .now) (c .before .before .before .before .before .before .before .loop .j) (c .before .before .before .before .before .before .before .loop .at) _ _ _ (i .1) (i .2) (omega (arith, m, g .1 .1 .1 .1 .1)) (c .before .before .write-op .ensures .0) (c .before .before .write-op .ensures .1) in
     (omega (arith, c .before .before .before .before .before .before .loop-test .taken), e .0, e .1, search needs)
 
--- src/write.rt:94:1
-same-length : tie.Need-same-length Inv-loop μ-loop
-same-length c = search needs
-
--- src/write.rt:94:1
 returns : tie.Need-returns Inv-loop μ-loop
 returns c =
     let i = c .before .loop .inv in
@@ -83,13 +49,13 @@ write-all-spec =
     Inv-loop
     μ-loop
     loop-holds
-    mul-write-op
-    shared-slice-read-write-op
-    mul-write-op-2
-    shared-slice-read-write-op-2
+    (λ c. search needs)
+    (λ c. search needs)
+    (λ c. search needs)
+    (λ c. search needs)
     write-op-requires
-    add-j
-    loop-less
+    (λ c. search needs)
+    (λ c. search needs)
     loop-again
-    same-length
+    (λ c. search needs)
     returns)
