@@ -1,7 +1,7 @@
 -- A file joined is a patch again, no longer than the file; what an answer of `join` says, by its number and place; and two answers
 -- coincide. Assumes nothing.
 use mathlib.Core.Path.{_≡_, refl, ap, sym, _∙_}
-use Prim.Native.Nat.{ℕ, _+_, _^_, _<_, _≤_}
+use Prim.Native.Nat.{ℕ, _^_, _<_, _≤_}
 use native.Mathlib.Omega.{arith}
 use mathlib.Core.Bool.{Bool, true, false}
 use mathlib.Core.List.{List, [], _∷_}
@@ -17,7 +17,7 @@ use Rattle.ops.specs.Op.{Op, argOf, valuesOf}
 use Rattle.ops.specs.Write.{encodeAll, Below, Fits, EachFits, markIn, marksIn, AllFit}
 use Rattle.ops.proofs.Rewritten.{bytes-back}
 use Rattle.ops.proofs.RoundTrip.{ops-back}
-use Rattle.joining.specs.Join.{decided, total, tested, join}
+use Rattle.joining.specs.Join.{join}
 use Rattle.joining.specs.Joined.{Outcome, outcome, write, joinedAs, joinOf, numberOf, placeOf, lengthOf}
 use Rattle.joining.specs.declared.join.Joined.{Joined}
 use Rattle.joining.specs.declared.join.Joined.the-variants.{NoRoom}

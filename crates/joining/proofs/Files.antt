@@ -1,10 +1,8 @@
 -- What each way out of `join` shows of the file. Assumes nothing.
 use mathlib.Core.Path.{_≡_, refl, ap, ap₂, sym, _∙_}
-use Prim.Native.Nat.{ℕ, zero, suc, _+_, _<_, _≤_}
+use Prim.Native.Nat.{ℕ, zero, suc, _<_, _≤_}
 use native.Mathlib.Omega.{arith}
-use mathlib.Core.Bool.{Bool, true, false, cond}
-use mathlib.Core.List.{List, [], _∷_, _++_, map, reverse}
-use lib.Dec.{eqb, ltb}
+use mathlib.Core.List.{List, [], _∷_, map}
 use lib.ListN.{length, getD, drop, length-append, length-drop, length-map, length-reverse, List·getD-append, List·getD-map}
 use mir.Val.{Fits}
 use mir.Syntax.{w8}
@@ -12,17 +10,15 @@ use borrow.Author.Tests.{eq-eqb, ne-eqb, lt-ltb, le-ltb}
 use Rattle.ops.specs.Storage.{fill}
 use Rattle.ops.specs.Patch.{Item, item, kindIn, countIn, placeIn, patchOf, readOf}
 use Rattle.ops.specs.Ops.{opAt, opsOf}
-use Rattle.ops.specs.Ops.Patch.{ops, refused}
-use Rattle.ops.specs.Op.{Op}
+use Rattle.ops.specs.Ops.Patch.{ops}
 use Rattle.ops.specs.Write.{encodeAll, Below}
 use Rattle.ops.specs.declared.reader.Read.{Read}
 use Rattle.ops.proofs.Items.{few-items}
 use Rattle.ops.proofs.Meaning.{ops-are, refused-are}
 use Rattle.ops.proofs.Rewritten.{bytes-back}
 use Rattle.joining.specs.Join.{join}
-use Rattle.joining.specs.Joined.{Outcome, outcome, write, joinedAs, joinOf}
-use Rattle.joining.specs.Stack.{Entry, stack, Holds, after, opOf, file, Within}
-use Rattle.joining.specs.declared.join.Joined.{Joined}
+use Rattle.joining.specs.Joined.{outcome, joinedAs, joinOf}
+use Rattle.joining.specs.Stack.{stack, Holds, after, opOf, file, Within}
 use Rattle.joining.specs.declared.join.Joined.the-variants.{BadFile, NoRoom, Written}
 use Rattle.joining.proofs.Seen.{joined-seen}
 use Rattle.joining.proofs.Sizes.{join-shorter}

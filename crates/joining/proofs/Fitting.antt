@@ -1,20 +1,20 @@
 -- The ops of a file are within its limits. Assumes nothing.
 use mathlib.Core.Path.{_≡_, refl, ap, sym, subst, _∙_}
-use Prim.Native.Nat.{ℕ, zero, suc, _+_, _*_, _^_, _<_, _≤_}
+use Prim.Native.Nat.{ℕ, zero, suc, _+_, _^_, _<_, _≤_}
 use native.Mathlib.Omega.{arith}
 use mathlib.Core.Bool.{Bool, true, false, cond}
-use mathlib.Core.List.{List, [], _∷_, _++_, map}
-use lib.Dec.{eqb, ltb, leb}
+use mathlib.Core.List.{List, [], _∷_, map}
+use lib.Dec.{eqb, ltb}
 use lib.ListN.{length, getD, take, drop, length-map}
 use borrow.Author.Tests.{leb-true, eqb-true, ltb-false}
 use Rattle.ops.specs.Bytes.{u16At, u32At, u64At, valuesAt, textAt}
-use Rattle.ops.specs.Kinds.{shape, kindAt, indexOf}
+use Rattle.ops.specs.Kinds.{shape}
 use Rattle.ops.specs.Record.{lengthOk, countOf}
 use Rattle.ops.specs.Refusals.{numberOf}
 use Rattle.ops.specs.Patch.{Item, Loaded, stop, walk, patchOf, markOf}
 use Rattle.ops.specs.Ops.{rowAt, opWith, opAt, opsOf}
 use Rattle.ops.specs.Ops.Patch.{ops, refused}
-use Rattle.ops.specs.Op.{Op, Plain, kindOf}
+use Rattle.ops.specs.Op.{Op, Plain}
 use Rattle.ops.specs.Op.Plain.{comment, store, move, swap, locate, offset, deref, refer, cell, lane, get, put, peek, poke, alloc, free}
 use Rattle.ops.specs.Op.Op.{control, set, load, plain}
 use Rattle.ops.specs.Write.{encodeAll, Below, Fits, EachFits, markIn, marksIn, AllFit}
@@ -28,6 +28,7 @@ use Rattle.ops.proofs.Rows.{rule, row-rule}
 use Rattle.ops.proofs.TextAt.{length-text}
 use Rattle.ops.proofs.ValuesAt.{length-values}
 use Rattle.ops.proofs.Whole.{tells}
+use Rattle.joining.proofs.Pushes.{clash}
 
 below-at : (s : List ℕ) (i : ℕ) → Below 256 s → getD s i 0 < 256
 below-at [] i w = omega arith
@@ -113,9 +114,6 @@ module _ (s : List ℕ) (w : Below 256 s) where
   items-marks (i ∷ is) e = omega (arith, item-mark i (e .0), items-marks is (e .1))
 
 -- ---- the file
-
-clash : {P : Type 0} → _≡_ {A = ℕ} 0 1 → P
-clash z = absurd (omega (arith, z))
 
 good : (s : List ℕ) (os : List Op) (t : Bool) (l : Loaded) → eqb (l .number) 0 ≡ t
     → cond t (ops (map (opAt s) (l .items))) (refused (l .number) (l .place)) ≡ ops os → (l .number ≡ 0) × (map (opAt s) (l .items) ≡ os)

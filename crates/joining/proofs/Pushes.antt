@@ -1,6 +1,6 @@
 -- Laws of the push: the second call where a move gives way is the push itself, and what weighs no more than the ops it stands for
 -- never weighs more in the end. Assumes nothing.
-use mathlib.Core.Path.{_≡_, refl, ap, sym, _∙_}
+use mathlib.Core.Path.{_≡_, refl, ap, _∙_}
 use Prim.Native.Nat.{ℕ, _+_, _≤_}
 use native.Mathlib.Omega.{arith}
 use mathlib.Core.Bool.{Bool, true, false, cond, _&&_}
@@ -12,6 +12,9 @@ use Rattle.ops.specs.Op.Plain.{move}
 use Rattle.ops.specs.Op.Op.{plain}
 use Rattle.joining.specs.Join.{Rule, both, alike, decided, tested, total, rule, moved, react, op, pushes, join}
 use Rattle.joining.specs.Join.Rule.{push, skip, pop, again, under, sum}
+
+pub clash : {P : Type 0} → _≡_ {A = ℕ} 0 1 → P
+clash z = absurd (omega (arith, z))
 
 -- ---- a move
 
@@ -31,7 +34,7 @@ op-move (last ∷ st) new e = rw e (by (eqb (kindOf last) 11) (eqb (total last n
 
 pub both-true : (a b : Bool) → (a && b) ≡ true → (a ≡ true) × (b ≡ true)
 both-true true b e = (refl, e)
-both-true false b e = let z : _≡_ {A = ℕ} 0 1 = cc in absurd (omega arith)
+both-true false b e = clash (cc)
 
 -- what a rule says of the last op and the new one
 pub data Ruled (last new : Op) : Rule → Type 0 where

@@ -15,7 +15,7 @@ use Rattle.ops.specs.Bytes.{u32At, u64At, valuesAt, textAt}
 use Rattle.ops.specs.Storage.{fill}
 use Rattle.ops.specs.Kinds.{shape, kindAt}
 use Rattle.ops.specs.Record.{lengthOk, countOf}
-use Rattle.ops.specs.Patch.{Item, patchOf}
+use Rattle.ops.specs.Patch.{Item}
 use Rattle.ops.specs.Ops.{rows, rowAt, opWith, opAt}
 use Rattle.ops.specs.Op.{Op}
 use Rattle.ops.specs.Op.Plain.{move}
@@ -30,6 +30,7 @@ use Rattle.ops.proofs.Whole.{tells}
 use Rattle.ops.proofs.Items.{IsItem}
 use Rattle.ops.proofs.Rewritten.{record-again}
 use Rattle.joining.specs.Stack.{Entry, entry, valued, valueOf, pushOn, itemAt, Holds, after, opWithin, opOf, stack, file, Within}
+use Rattle.joining.proofs.Pushes.{clash}
 use Rattle.joining.proofs.Seen.{is-item}
 
 -- ---- an op of the file
@@ -71,7 +72,7 @@ has-value k n e = by (eqb k 11) (eqb k 1) refl refl e
     by : (a b : Bool) → eqb k 11 ≡ a → eqb k 1 ≡ b → cond a true (cond b (eqb n 1) false) ≡ true → Valued k n
     by true b p q r = is-move (eqb-true k 11 p)
     by false true p q r = is-set (eqb-true k 1 q) (eqb-true n 1 r)
-    by false false p q r = let z : _≡_ {A = ℕ} 0 1 = cc in absurd (omega arith)
+    by false false p q r = clash (cc)
 
 module _ (s : List ℕ) (i : Item) (d : Stands s i) where
   -- its record without a value of its own is the file's
@@ -80,8 +81,8 @@ module _ (s : List ℕ) (i : Item) (d : Stands s i) where
   within-kept v e = by (eqb (i .kind) 11) (eqb (i .kind) 1) (eqb (i .count) 1) e
     where
       by : (a b c : Bool) → cond a true (cond b c false) ≡ false → cond a (plain (move v)) (cond b (cond c (set ints (v ∷ [])) (opAt s i)) (opAt s i)) ≡ opAt s i
-      by true b c r = let z : _≡_ {A = ℕ} 0 1 = cc in absurd (omega arith)
-      by false true true r = let z : _≡_ {A = ℕ} 0 1 = cc in absurd (omega arith)
+      by true b c r = clash (cc)
+      by false true true r = clash (cc)
       by false true false r = refl
       by false false c r = refl
 

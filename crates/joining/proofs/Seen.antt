@@ -1,13 +1,13 @@
 -- What the stack stands for: an entry is an op, and the push of an entry is the push of its op. Assumes nothing.
 use mathlib.Core.Path.{_≡_, refl, ap, ap₂, sym, _∙_}
-use Prim.Native.Nat.{ℕ, zero, suc, _+_, _-_, _<_, _≤_}
+use Prim.Native.Nat.{ℕ, zero, suc, _-_, _<_, _≤_}
 use native.Mathlib.Omega.{arith}
 use mathlib.Core.Bool.{Bool, true, false, cond, _&&_}
-use mathlib.Core.List.{List, [], _∷_, _++_, map, map-append, reverse}
+use mathlib.Core.List.{List, [], _∷_, map, map-append, reverse}
 use lib.Dec.{eqb, ltb}
 use lib.ListN.{length, getD, take}
 use lib.Seq.{take-suc, take-length}
-use borrow.Author.Tests.{eqb-true, eqb-false, eq-eqb, ne-eqb, ltb-true, ltb-false}
+use borrow.Author.Tests.{eqb-true, eqb-false, eq-eqb, ne-eqb, ltb-false}
 use Rattle.lanes.specs.Int.{intAdd, intGez}
 use Rattle.ops.specs.Kinds.{indexOf}
 use Rattle.ops.specs.Bytes.{u64At, valuesAt}

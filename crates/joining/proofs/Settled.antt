@@ -10,8 +10,8 @@ use Rattle.ops.specs.Op.{Op, kindOf}
 use Rattle.ops.specs.Op.Plain.{move}
 use Rattle.ops.specs.Op.Op.{plain}
 use Rattle.joining.specs.Join.{Rule, total, rule, moved, react, op, pushes, join}
-use Rattle.joining.specs.Join.Rule.{push, skip, pop, again, under, sum}
-use Rattle.joining.proofs.Pushes.{Ruled, ruled}
+use Rattle.joining.specs.Join.Rule.{push, pop, sum}
+use Rattle.joining.proofs.Pushes.{clash, Ruled, ruled}
 use Rattle.joining.proofs.Pushes.Ruled.{pushed, skipped, popped, renewed, tried, swapped, summed}
 
 -- the new op is pushed on the last one as it is
@@ -22,9 +22,6 @@ Rests (last ∷ st) new = rule last new ≡ push
 abbrev Settled : List Op → Type 0
 Settled [] = Unit {0}
 Settled (o ∷ st) = Rests st o × Settled st
-
-clash : {P : Type 0} → _≡_ {A = ℕ} 0 1 → P
-clash z = absurd (omega (arith, z))
 
 rule-move : (last new : Op) → kindOf new ≡ 11 → rule last new ≡ cond (eqb (kindOf last) 11) (cond (eqb (total last new) 0) pop (sum (total last new))) push
 unfolding rule

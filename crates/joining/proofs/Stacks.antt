@@ -1,17 +1,16 @@
 -- The stack that two slices hold: what a store does to it, and what each way of a push shows. Assumes nothing.
 use mathlib.Core.Path.{_≡_, refl, ap, sym, _∙_}
-use Prim.Native.Nat.{ℕ, zero, suc, _+_, _-_, _<_, _≤_}
+use Prim.Native.Nat.{ℕ, zero, suc, _-_, _<_, _≤_}
 use native.Mathlib.Nat.{not-suc-le-zero}
 use native.Mathlib.Omega.{arith}
 use native.Mathlib.Numerals.{unary-clauses}
-use mathlib.Core.List.{List, [], _∷_}
+use mathlib.Core.List.{List, _∷_}
 use lib.ListN.{length, getD, set}
 use lib.Seq.{getD-set-same, getD-set-other}
-use lib.Dec.{eqb}
 use borrow.Author.Tests.{eq-eqb, ne-eqb}
 use Rattle.lanes.specs.Int.{intAdd}
 use Rattle.joining.specs.declared.stack.Met.{Met}
-use Rattle.joining.specs.declared.stack.Met.the-variants.{Push, Skip, Pop, Again, Test, Under, Sum}
+use Rattle.joining.specs.declared.stack.Met.the-variants.{Push, Skip, Under}
 use Rattle.joining.specs.Stack.{Entry, entry, meet, met, movedOn, reactOn, pushOn, stack}
 
 -- stores beyond the stack
