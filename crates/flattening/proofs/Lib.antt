@@ -1,1 +1,5 @@
 pub mod Flattened
+pub mod Flags
+pub mod Turns
+pub mod Copying
+pub mod Writing
