@@ -34,7 +34,7 @@ unfolding enter
 enter-front p [] e = refl
 enter-front p (y ∷ ys) e = rw (lt-ltb p y (e .0)) refl
 
-has-none : (p : ℕ) (ys : List ℕ) → Each (λ y. p < y) ys → has p ys ≡ false
+pub has-none : (p : ℕ) (ys : List ℕ) → Each (λ y. p < y) ys → has p ys ≡ false
 has-none p [] e = refl
 has-none p (y ∷ ys) e = rw (ne-eqb p y (λ z. omega (arith, e .0)), has-none p ys (e .1)) refl
 

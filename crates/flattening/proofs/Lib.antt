@@ -3,3 +3,5 @@ pub mod Flags
 pub mod Turns
 pub mod Copying
 pub mod Writing
+pub mod FewBodies
+pub mod File

@@ -95,6 +95,7 @@ pub fn body_after(leaving: usize, here: usize, outer: usize) -> usize
 pub fn number_ops(kinds: &[u8], owner: &mut [u16; 4096], seen: &mut [u8; 4097]) -> Numbering
     requires { ⌜ (length (now kinds) ≤ 4096) × ((length (now owner) ≡ 4096) × (now seen ≡ replicate 4097 0)) ⌝ }
     ensures { λ r. ⌜ told r (take (length (now (kinds .entry))) (now (owner .exit))) (listed 0 (now (seen .exit))) ≡ number 0 0 0 [] [] (rowNotes (now (kinds .entry))) ⌝ }
+    ensures { λ r. ⌜ (length (now (owner .exit)) ≡ 4096) × (length (now (seen .exit)) ≡ 4097) ⌝ }
 {
     // what was left where each enclosing body was entered: its number and its open brackets
     let mut around = [0u16; 4097];

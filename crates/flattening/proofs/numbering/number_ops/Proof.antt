@@ -42,7 +42,7 @@ leaving-of-requires c κs = search needs
 
 -- src/numbering.rt:111:13
 returns : tie.Need-returns Inv-loop μ-loop
-returns c = stray-end _ _ _ _ _ _ _ _ _ _ (c .before .before .before .before .before .loop .inv) (c .before .before .before .before .before .before .before .pre .0) (c .before .before .before .before .loop-test .taken) _ (c .before .before .wide .ensures .0) _ (c .before .leaving-of .ensures .0) (c .if1 .taken) (c .before .leaving-of .ensures .1)
+returns c = (stray-end _ _ _ _ _ _ _ _ _ _ (c .before .before .before .before .before .loop .inv) (c .before .before .before .before .before .before .before .pre .0) (c .before .before .before .before .loop-test .taken) _ (c .before .before .wide .ensures .0) _ (c .before .leaving-of .ensures .0) (c .if1 .taken) (c .before .leaving-of .ensures .1), (c .before .before .before .before .before .loop .inv .owners, c .before .before .before .before .before .loop .inv .flags))
 
 -- src/numbering.rt:113:31
 add-wide : tie.Need-add-wide Inv-loop μ-loop
@@ -175,7 +175,7 @@ loop-again c =
 
 -- src/numbering.rt:95:1
 returns-2 : tie.Need-returns-2 Inv-loop μ-loop
-returns-2 c = done _ _ _ _ _ _ _ _ _ _ (c .before .loop .inv) (c .loop-test .left)
+returns-2 c = (done _ _ _ _ _ _ _ _ _ _ (c .before .loop .inv) (c .loop-test .left), (c .before .loop .inv .owners, c .before .loop .inv .flags))
 
 pub number-ops-spec : {M : Type 1} → statement M
 number-ops-spec =
