@@ -27,9 +27,12 @@ use Rattle.flattening.specs.Flatten.{Note, note, notes, Numbered, number
 use Rattle.flattening.specs.Flatten.Note.{stays}
 use Rattle.flattening.specs.Flatten.Numbered.{stray, numbered}
 use Rattle.flattening.specs.Flatten.Flat.{loose, flat}
-use Rattle.flattening.specs.Scope.{rowNote, rowNotes, rowMarks}
+use Rattle.flattening.specs.Scope.{rowNote, rowNotes, rowMarks, told}
+use Rattle.flattening.specs.declared.numbering.Numbering.{Numbering}
+use Rattle.flattening.specs.declared.numbering.Numbering.the-variants.{Done}
 use Rattle.flattening.specs.Flattened.{Outcome, outcome, held, opsIn, numberIn, firstIn, countIn, tooShort, ofFlat, ofPatch, flattenOf}
 use Rattle.flattening.specs.declared.answer.Flattened.the-variants.{BadFile, NoOpenEnd, NoRoom, Written}
+use Rattle.flattening.specs.declared.numbering.Numbering.the-variants as numbering
 use Rattle.flattening.proofs.Flattened.{same-ops, same-bytes}
 use Rattle.flattening.proofs.FewBodies.{few-bodies, length-bodies}
 use Rattle.flattening.proofs.Copying.{held-is, file-bytes, below-all}
@@ -81,6 +84,14 @@ module _ (s : List ℕ) where
   marks-are : (is : List Item) → Every (IsItem s) is → rowMarks (map kindIn is) ≡ marksIn (map (opAt s) is)
   marks-are [] e = refl
   marks-are (i ∷ is) e = ap₂ (λ (x y : ℕ). x + y) (mark-item i (e .0)) (marks-are is (e .1))
+
+-- ---- what the numbering told
+
+pub stray-told : (x : Numbering) (p : ℕ) (cs seen : List ℕ) (n : Numbered) → x ≡ numbering.NoOpenEnd p → told x cs seen ≡ n → stray p ≡ n
+stray-told x p cs seen n e q = ap (λ (y : Numbering). told y cs seen) (sym e) ∙ q
+
+pub done-told : (x : Numbering) (owner seen : List ℕ) (m k : ℕ) (n : Numbered) → x ≡ Done → m ≡ k → told x (take m owner) seen ≡ n → numbered (take k owner) seen ≡ n
+done-told x owner seen m k n e h q = ap (λ (j : ℕ). numbered (take j owner) seen) (sym h) ∙ ap (λ (y : Numbering). told y (take m owner) seen) (sym e) ∙ q
 
 -- ---- a bad file
 
@@ -190,22 +201,14 @@ module _ (s : List ℕ) (r : Read) (e : r ≡ readOf (patchOf s)) (z : r .number
             bytes-same : length (encodeAll flat-ops) ≡ length s
             bytes-same = same-bytes (opsIn s) flat-ops _ flat-is ∙ ap length (file-bytes s good (below-all s w))
 
-            pub gathered-few : length (gathered (others seen) cs (opsIn s)) ≤ 4096
+            -- what `write_bodies` asks
+            pub fits : ((length (gathered (others seen) cs (opsIn s)) ≤ 4096) × (length (encodeAll (gathered (others seen) cs (opsIn s) ++ body 0 cs (opsIn s))) ≤ length o))
+                × ((length (others seen) ≤ length ns) × ((length (others seen) ≤ length fs) × (length (others seen) ≤ length ks)))
             unfolding flat-ops
-            gathered-few = omega (arith, same-ops (opsIn s) flat-ops _ flat-is, length-append (gathered (others seen) cs (opsIn s)) (body 0 cs (opsIn s)), op-count, op-few)
-
-            pub bytes-room : length (encodeAll (gathered (others seen) cs (opsIn s) ++ body 0 cs (opsIn s))) ≤ length o
-            unfolding flat-ops
-            bytes-room = omega (arith, bytes-same, ho)
-
-            pub numbers-room : length (others seen) ≤ length ns
-            numbers-room = omega (arith, entries-few, em, hn)
-
-            pub firsts-room : length (others seen) ≤ length fs
-            firsts-room = omega (arith, entries-few, em, hf)
-
-            pub counts-room : length (others seen) ≤ length ks
-            counts-room = omega (arith, entries-few, em, hk)
+            fits =
+                let few : length (gathered (others seen) cs (opsIn s)) ≤ 4096 =
+                omega (arith, same-ops (opsIn s) flat-ops _ flat-is, length-append (gathered (others seen) cs (opsIn s)) (body 0 cs (opsIn s)), op-count, op-few) in
+                ((few, omega (arith, bytes-same, ho)), (omega (arith, entries-few, em, hn), (omega (arith, entries-few, em, hf), omega (arith, entries-few, em, hk))))
 
             pub written-file : (n : ℕ) (o′ ns′ fs′ ks′ : List ℕ) → n ≡ length (others seen)
                 → o′ ≡ fill (encodeAll (gathered (others seen) cs (opsIn s) ++ body 0 cs (opsIn s))) o
