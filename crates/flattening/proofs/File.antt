@@ -226,6 +226,6 @@ module _ (s : List ℕ) (r : Read) (e : r ≡ readOf (patchOf s)) (z : r .number
                 let t : tooShort s o ns fs ks (marksIn (opsIn s)) ≡ false =
                 rw (sym m-is, le-ltb (length o) (length s) ho, le-ltb (length ns) m hn, le-ltb (length fs) m hf, le-ltb (length ks) m hk) refl in
                 let x : outcome (Written (r .place) (length s) n) o′ ns′ fs′ ks′
-                    ≡ outcome (Written (length gs) (length (encodeAll gs)) (length bs)) (fill (encodeAll gs) o) (fill (map numberIn bs) ns) (fill (map firstIn bs) fs) (fill (map countIn bs) ks) =
+                ≡ outcome (Written (length gs) (length (encodeAll gs)) (length bs)) (fill (encodeAll gs) o) (fill (map numberIn bs) ns) (fill (map firstIn bs) fs) (fill (map countIn bs) ks) =
                 cc in
                 x ∙ sym (rw t refl) ∙ answer-is o ns fs ks

@@ -138,18 +138,27 @@ module _ (cs : List ℕ) (os : List Op) (seen out₀ ns₀ fs₀ ks₀ out ns fs
 
     pub bytes-fit : at + length (encodeAll (body b cs os)) ≤ length out
     bytes-fit =
-        omega (arith, c .to, c .out-long, room,
+        omega (
+          arith,
+          c .to,
+          c .out-long,
+          room,
           encode-length (gathered (others (listed 0 seen)) cs os) (body 0 cs os),
           ap (λ (x : List Op). length (encodeAll x)) whole-on,
           encode-length (c .gs ++ body b cs os) (gathered rest cs os),
-          encode-length (c .gs) (body b cs os))
+          encode-length (c .gs) (body b cs os),
+        )
 
     pub ops-few : first + length (body b cs os) ≤ 4096
     ops-few =
-        omega (arith, c .ops, few,
+        omega (
+          arith,
+          c .ops,
+          few,
           ap (λ (x : List Op). length x) whole-on,
           length-append (c .gs ++ body b cs os) (gathered rest cs os),
-          length-append (c .gs) (body b cs os))
+          length-append (c .gs) (body b cs os),
+        )
 
     pub entry-fits : n < length (others (listed 0 seen))
     entry-fits = omega (arith, c .left, ap (λ (r : List ℕ). length r) split)
@@ -210,9 +219,14 @@ module _ (cs : List ℕ) (os : List Op) (seen out₀ ns₀ fs₀ ks₀ out ns fs
     module _ (room : length (encodeAll (gathered (others (listed 0 seen)) cs os ++ body 0 cs os)) ≤ length out₀) where
       pub main-fits : at + length (encodeAll (body 0 cs os)) ≤ length out
       main-fits =
-          omega (arith, c .to, c .out-long, room,
+          omega (
+            arith,
+            c .to,
+            c .out-long,
+            room,
             encode-length (gathered (others (listed 0 seen)) cs os) (body 0 cs os),
-            ap (λ (x : List Op). length (encodeAll x)) all-ops)
+            ap (λ (x : List Op). length (encodeAll x)) all-ops,
+          )
 
       pub out-is : (out′ : List ℕ) → out′ ≡ placed out at (encodeAll (body 0 cs os))
           → out′ ≡ fill (encodeAll (gathered (others (listed 0 seen)) cs os ++ body 0 cs os)) out₀

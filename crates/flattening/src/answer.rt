@@ -5,10 +5,19 @@ ghost use Rattle.flattening.specs.Flattened.{numberOf, placeOf};
 // The refusal of a bad file, its number and its byte; an End with no open bracket, its op; lent room too short; or what was written: ops,
 // bytes, and entries of function bodies.
 pub enum Flattened {
-    BadFile { number: usize, place: usize },
-    NoOpenEnd { op: usize },
+    BadFile {
+        number: usize,
+        place: usize,
+    },
+    NoOpenEnd {
+        op: usize,
+    },
     NoRoom,
-    Written { ops: usize, bytes: usize, bodies: usize },
+    Written {
+        ops: usize,
+        bytes: usize,
+        bodies: usize,
+    },
 }
 
 // The number that is given back, and the place that goes with it.
@@ -19,7 +28,11 @@ pub fn number_of(r: Flattened) -> usize
         Flattened::BadFile { number, place: _ } => number,
         Flattened::NoOpenEnd { op: _ } => 10,
         Flattened::NoRoom => 40,
-        Flattened::Written { ops: _, bytes: _, bodies: _ } => 0,
+        Flattened::Written {
+            ops: _,
+            bytes: _,
+            bodies: _,
+        } => 0,
     }
 }
 
@@ -30,6 +43,10 @@ pub fn place_of(r: Flattened) -> usize
         Flattened::BadFile { number: _, place } => place,
         Flattened::NoOpenEnd { op } => op,
         Flattened::NoRoom => 0,
-        Flattened::Written { ops, bytes: _, bodies: _ } => ops,
+        Flattened::Written {
+            ops,
+            bytes: _,
+            bodies: _,
+        } => ops,
     }
 }

@@ -2,8 +2,8 @@
 ghost use mathlib.Core.Path.{_≡_};
 ghost use Rattle.flattening.specs.Scope.{rowMarks};
 ghost use Rattle.flattening.specs.Flattened.{outcome, flattenOf};
-use crate::bodies::write_bodies;
 use crate::answer::Flattened;
+use crate::bodies::write_bodies;
 use crate::numbering::Numbering;
 use crate::numbering::number_ops;
 use ops::bytes::wide;
@@ -25,7 +25,13 @@ pub fn count_marks(kinds: &[u8]) -> usize
 
 // Flattens a patch: each function's own ops, then main. An entry of each function's body goes to the three lists: its number, its first op
 // and its op count.
-pub fn flatten(bytes: &[u8], out: &mut [u8], numbers: &mut [u32], firsts: &mut [u32], counts: &mut [u32]) -> Flattened
+pub fn flatten(
+    bytes: &[u8],
+    out: &mut [u8],
+    numbers: &mut [u32],
+    firsts: &mut [u32],
+    counts: &mut [u32],
+) -> Flattened
     ensures { λ r. ⌜ outcome r (now (out .exit)) (now (numbers .exit)) (now (firsts .exit)) (now (counts .exit)) ≡ flattenOf (now (bytes .entry)) (now (out .entry)) (now (numbers .entry)) (now (firsts .entry)) (now (counts .entry)) ⌝ }
 {
     let mut kinds = [0u8; 4096];

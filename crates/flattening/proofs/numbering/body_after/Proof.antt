@@ -1,16 +1,13 @@
+-- `flattening::numbering::body_after` meets its contract. Assumes nothing.
 use borrow.Author.Tests.{eq-eqb, ne-eqb}
 use Rattle.flattening.specs.Scope.{bodyAfter}
 use Rattle.flattening.proofs.numbering.body_after.Statement.{statement}
 use Rattle.flattening.proofs.numbering.body_after.Tie as tie
-use Rattle.flattening.proofs.numbering.body_after.Reads as reads
-use Rattle.flattening.proofs.numbering.body_after.Lts as lts
 
--- src/numbering.rt:89:9
 returns : tie.Need-returns
 unfolding bodyAfter
 returns c = simp (eq-eqb _ _ (c .if1 .taken))
 
--- src/numbering.rt:85:1
 returns-2 : tie.Need-returns-2
 unfolding bodyAfter
 returns-2 c = simp (ne-eqb _ _ (c .if1 .left))

@@ -1,17 +1,14 @@
+-- `flattening::numbering::new_of` meets its contract. Assumes nothing.
 use native.Mathlib.Omega.{arith}
 use borrow.Author.Tests.{eq-eqb, ne-eqb}
 use Rattle.flattening.specs.Scope.{newOf}
 use Rattle.flattening.proofs.numbering.new_of.Statement.{statement}
 use Rattle.flattening.proofs.numbering.new_of.Tie as tie
-use Rattle.flattening.proofs.numbering.new_of.Reads as reads
-use Rattle.flattening.proofs.numbering.new_of.Lts as lts
 
--- src/numbering.rt:56:9
 returns : tie.Need-returns
 unfolding newOf
 returns c = (simp (eq-eqb _ _ (c .if1 .taken)), omega arith)
 
--- src/numbering.rt:52:1
 returns-2 : tie.Need-returns-2
 unfolding newOf
 returns-2 c = (simp (ne-eqb _ _ (c .if1 .left)), omega arith)

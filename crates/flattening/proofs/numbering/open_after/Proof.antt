@@ -1,49 +1,30 @@
+-- `flattening::numbering::open_after` meets its contract. Assumes nothing.
 use borrow.Author.Tests.{eq-eqb, ne-eqb}
 use Rattle.flattening.specs.Scope.{openAfter}
 use borrow.Author.Needs.{needs}
 use Rattle.flattening.proofs.numbering.open_after.Statement.{statement}
 use Rattle.flattening.proofs.numbering.open_after.Tie as tie
-use Rattle.flattening.proofs.numbering.open_after.Reads as reads
-use Rattle.flattening.proofs.numbering.open_after.Lts as lts
 
--- src/numbering.rt:67:9
 returns : tie.Need-returns
 unfolding openAfter
 returns c = simp (eq-eqb _ _ (c .if1 .taken))
 
--- src/numbering.rt:70:16
-add-result : tie.Need-add-result
-add-result c = search needs
-
--- src/numbering.rt:70:9
 returns-2 : tie.Need-returns-2
 unfolding openAfter
 returns-2 c = simp (ne-eqb _ _ (c .before .if1 .left), eq-eqb _ _ (c .if2 .taken))
 
--- src/numbering.rt:73:16
-add-result-2 : tie.Need-add-result-2
-add-result-2 c = search needs
-
--- src/numbering.rt:73:9
 returns-3 : tie.Need-returns-3
 unfolding openAfter
 returns-3 c = simp (ne-eqb _ _ (c .before .before .if1 .left), ne-eqb _ _ (c .before .if2 .left), eq-eqb _ _ (c .if3 .taken))
 
--- src/numbering.rt:77:13
 returns-4 : tie.Need-returns-4
 unfolding openAfter
 returns-4 c = simp (ne-eqb _ _ (c .before .before .before .before .if1 .left), ne-eqb _ _ (c .before .before .before .if2 .left), ne-eqb _ _ (c .before .before .if3 .left), eq-eqb _ _ (c .before .if4 .taken), eq-eqb _ _ (c .if5 .taken))
 
--- src/numbering.rt:79:16
-sub-result : tie.Need-sub-result
-sub-result c = search needs
-
--- src/numbering.rt:79:9
 returns-5 : tie.Need-returns-5
 unfolding openAfter
 returns-5 c = simp (ne-eqb _ _ (c .before .before .before .before .if1 .left), ne-eqb _ _ (c .before .before .before .if2 .left), ne-eqb _ _ (c .before .before .if3 .left), eq-eqb _ _ (c .before .if4 .taken), ne-eqb _ _ (c .if5 .left))
 
--- src/numbering.rt:62:1
 returns-6 : tie.Need-returns-6
 unfolding openAfter
 returns-6 c = simp (ne-eqb _ _ (c .before .before .before .if1 .left), ne-eqb _ _ (c .before .before .if2 .left), ne-eqb _ _ (c .before .if3 .left), ne-eqb _ _ (c .if4 .left))
@@ -53,11 +34,11 @@ open-after-spec =
     tie.close
     (tie.spec
     returns
-    add-result
+    (λ c. search needs)
     returns-2
-    add-result-2
+    (λ c. search needs)
     returns-3
     returns-4
-    sub-result
+    (λ c. search needs)
     returns-5
     returns-6)
