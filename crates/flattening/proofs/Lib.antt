@@ -5,3 +5,4 @@ pub mod Copying
 pub mod Writing
 pub mod FewBodies
 pub mod File
+pub mod Again
