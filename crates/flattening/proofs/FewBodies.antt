@@ -1,23 +1,23 @@
 -- There are no more bodies of functions than Function marks: only a mark makes a body. Assumes nothing.
 use Prim.Native.Nat.{ℕ, zero, suc, _+_, _≤_, _<_}
 use native.Mathlib.Omega.{arith}
-use borrow.Author.Tests.{ltb-true, ltb-false, eqb-true, eqb-false}
-use mathlib.Core.Path.{_≡_, refl, ap, sym, _∙_}
-use mathlib.Core.Bool.{Bool, true, false, cond, _||_}
+use borrow.Author.Tests.{ltb-true, ltb-false, eqb-false}
+use mathlib.Core.Path.{_≡_, refl, ap}
+use mathlib.Core.Bool.{Bool, true, false, cond}
 use mathlib.Core.List.{List, [], _∷_}
 use mathlib.Core.Logic.{_⊎_, inl, inr}
 use lib.Dec.{eqb, ltb}
 use lib.ListN.{length}
-use Rattle.ops.specs.Op.{Op, Control}
+use Rattle.ops.specs.Op.{Op}
 use Rattle.ops.specs.Op.Op.{control, set, load, plain}
 use Rattle.ops.specs.Op.Control.{function, call, ret, while, if, else, end}
-use Rattle.ops.specs.Write.{markIn, marksIn}
+use Rattle.ops.specs.Write.{marksIn}
 use Rattle.machine_model.specs.Step.{enter}
-use Rattle.machine_model.specs.Formed.{Each, Rising}
+use Rattle.machine_model.specs.Formed.{Rising}
 use Rattle.machine_model.proofs.Each.{each-to}
 use Rattle.machine_model.proofs.Scans.{clash}
 use Rattle.machine_model.proofs.Table.{rising-enter}
-use Rattle.flattening.specs.Flatten.{Note, note, notes, Numbered, named, has, fresh, number, body, bodies, others}
+use Rattle.flattening.specs.Flatten.{Note, notes, Numbered, named, has, fresh, number, body, bodies, others}
 use Rattle.flattening.specs.Flatten.Note.{enters, opens, closes, stays}
 use Rattle.flattening.specs.Flatten.Numbered.{stray, numbered}
 use Rattle.flattening.proofs.Flags.{has-none}

@@ -4,33 +4,30 @@ use native.Mathlib.Nat.{not-suc-le-zero, le-of-suc-le-suc, zero-add}
 use native.Mathlib.Omega.{arith}
 use borrow.Author.Tests.{eq-eqb, ne-eqb, lt-ltb, le-ltb}
 use mathlib.Core.Path.{_≡_, refl, ap, ap₂, sym, _∙_}
-use mathlib.Core.Bool.{Bool, true, false, cond, _||_}
+use mathlib.Core.Bool.{true, false}
 use mathlib.Core.List.{List, [], _∷_, _++_, map}
-use lib.Dec.{ltb}
 use lib.ListN.{length, getD, take, drop, length-map, length-append, List·getD-map}
-use lib.Seq.{take-at, length-take-le}
-use Rattle.ops.specs.Op.{Op, kindOf}
+use lib.Seq.{take-at}
+use Rattle.ops.specs.Op.{Op}
 use Rattle.ops.specs.Op.Op.{control, set, load, plain}
 use Rattle.ops.specs.Op.Plain.{free}
-use Rattle.ops.specs.Kinds.{indexOf}
 use Rattle.ops.specs.Storage.{fill}
 use Rattle.ops.specs.Patch.{Item, kindIn, markOf, patchOf, readOf}
-use Rattle.ops.specs.Ops.{Patch, rows, rowAt, opWith, opAt, opsOf}
-use Rattle.ops.specs.Ops.Patch.{ops, refused}
-use Rattle.ops.specs.Write.{encodeAll, Below, markIn, marksIn}
+use Rattle.ops.specs.Ops.{rows, rowAt, opWith, opAt}
+use Rattle.ops.specs.Write.{encodeAll, markIn, marksIn}
 use Rattle.ops.specs.declared.reader.Read.{Read}
 use Rattle.ops.proofs.Encoded.{known}
 use Rattle.ops.proofs.Items.{IsItem, Every, items-are, few-items}
 use Rattle.ops.proofs.Meaning.{means, ops-are, refused-are}
 use Rattle.ops.proofs.Whole.{tells}
-use Rattle.flattening.specs.Flatten.{Note, note, notes, Numbered, number, body, bodies, gathered, others, laid, flatten, Flat, Body}
+use Rattle.flattening.specs.Flatten.{Note, note, notes, Numbered, number, body, bodies, gathered, others, laid, flatten, Flat}
 use Rattle.flattening.specs.Flatten.Note.{stays}
 use Rattle.flattening.specs.Flatten.Numbered.{stray, numbered}
 use Rattle.flattening.specs.Flatten.Flat.{loose, flat}
 use Rattle.flattening.specs.Scope.{rowNote, rowNotes, rowMarks, told}
 use Rattle.flattening.specs.declared.numbering.Numbering.{Numbering}
 use Rattle.flattening.specs.declared.numbering.Numbering.the-variants.{Done}
-use Rattle.flattening.specs.Flattened.{Outcome, outcome, held, opsIn, numberIn, firstIn, countIn, tooShort, ofFlat, ofPatch, flattenOf}
+use Rattle.flattening.specs.Flattened.{outcome, held, opsIn, numberIn, firstIn, countIn, tooShort, ofFlat, ofPatch, flattenOf}
 use Rattle.flattening.specs.declared.answer.Flattened.the-variants.{BadFile, NoOpenEnd, NoRoom, Written}
 use Rattle.flattening.specs.declared.numbering.Numbering.the-variants as numbering
 use Rattle.flattening.proofs.Flattened.{same-ops, same-bytes}

@@ -3,19 +3,19 @@ use Prim.Native.Nat.{ℕ, zero, suc, _+_, _-_, _≤_, _<_}
 use native.Mathlib.Nat.{not-suc-le-zero, zero-add}
 use native.Mathlib.Numerals.{add-one}
 use native.Mathlib.Omega.{arith}
-use borrow.Author.Tests.{eqb-true, eqb-false, eq-eqb, ne-eqb}
+use borrow.Author.Tests.{eqb-true}
 use mathlib.Core.Path.{_≡_, refl, ap, sym, _∙_, subst}
 use mathlib.Core.Bool.{Bool, true, false, cond, not}
 use mathlib.Core.List.{List, [], _∷_, _++_}
 use lib.Dec.{eqb, eqb·suc-zero}
 use lib.ListN.{length, getD, set, take, drop, replicate, length-set, length-replicate, drop-of-length-le}
-use lib.Seq.{drop-cons, getD-set-same, getD-set-other, take-suc-set, take-length}
+use lib.Seq.{drop-cons, getD-set-same, getD-set-other, take-suc-set}
 use Rattle.ops.specs.Patch.{markOf}
 use Rattle.machine_model.specs.Step.{enter}
 use Rattle.machine_model.specs.Formed.{Each}
 use Rattle.machine_model.proofs.Each.{each-to, each-set, each-getD, each-replicate}
 use Rattle.flattening.specs.Flatten.{Note, Numbered, named, has, fresh, number}
-use Rattle.flattening.specs.Flatten.Note.{enters, opens, closes, stays}
+use Rattle.flattening.specs.Flatten.Note.{opens}
 use Rattle.flattening.specs.Flatten.Numbered.{stray, numbered}
 use Rattle.flattening.specs.Scope.{rowNote, rowNotes, rowMarks, leavingOf, hereOf, newOf, openAfter, bodyAfter, listed, told}
 use Rattle.flattening.specs.declared.numbering.Numbering.the-variants.{Done}
