@@ -1,0 +1,5 @@
+pub mod Answer
+pub mod Fresh
+pub mod Formed
+pub mod Calls
+pub mod Going

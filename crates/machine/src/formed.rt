@@ -1,0 +1,152 @@
+// What 37 tests: the lent room, the limits, the stacks and the table.
+ghost use mathlib.Core.Path.{_≡_};
+ghost use Prim.Native.Nat.{ℕ, _+_, _≤_, _<_};
+ghost use lib.ListN.{length};
+ghost use Rattle.machine_step.specs.Held.{held};
+ghost use Rattle.machine.specs.Formed.{hasRoom, inLimits, inPlace, callsBelow, refsWithin, tableNames, isFormed};
+use machine_ops::place::Place;
+
+pub fn has_room(register: &[u64], table: &[u16], channel: &[u64]) -> bool
+    ensures { λ r. ⌜ r ≡ hasRoom (now (register .entry)) (now (table .entry)) (now (channel .entry)) ⌝ }
+{
+    if register.len() < 1024 {
+        return false;
+    }
+    if table.len() < 256 {
+        return false;
+    }
+    256 <= channel.len()
+}
+
+fn in_limits(h: Place) -> bool
+    ensures { λ r. ⌜ r ≡ inLimits h ⌝ }
+{
+    if 1000000000 < h.pointer {
+        return false;
+    }
+    if 2000000000 < h.length {
+        return false;
+    }
+    if 1024 < h.lanes {
+        return false;
+    }
+    if 256 < h.functions {
+        return false;
+    }
+    if 256 < h.depth {
+        return false;
+    }
+    if 256 < h.saved {
+        return false;
+    }
+    if 256 < h.waiting {
+        return false;
+    }
+    h.first < 256
+}
+
+fn in_place(h: Place, ops: usize, inputs: usize, outputs: usize) -> bool
+    ensures { λ r. ⌜ r ≡ inPlace h ops inputs outputs ⌝ }
+{
+    if ops < h.position {
+        return false;
+    }
+    if inputs < h.taken {
+        return false;
+    }
+    h.written <= outputs
+}
+
+fn wide(x: u16) -> usize
+    ensures { λ r. ⌜ (r ≡ x) × (r < 65536) ⌝ }
+{
+    x as usize
+}
+
+// The first n saved calls are below the op count.
+fn calls_below(calls: &[u16; 256], n: usize, ops: usize) -> bool
+    requires { ⌜ (n ≤ 256) × (length (now calls) ≡ 256) ⌝ }
+    ensures { λ r. ⌜ r ≡ callsBelow (now (calls .entry)) n ops ⌝ }
+{
+    let mut i: usize = 0;
+    while i < n {
+        if ops <= wide(calls[i]) {
+            return false;
+        }
+        i += 1;
+    }
+    true
+}
+
+// The first n saved pointers are within their limit.
+fn refs_within(refs: &[u32; 256], n: usize) -> bool
+    requires { ⌜ (n ≤ 256) × (length (now refs) ≡ 256) ⌝ }
+    ensures { λ r. ⌜ r ≡ refsWithin (now (refs .entry)) n ⌝ }
+{
+    let mut i: usize = 0;
+    while i < n {
+        if 1000000000 < refs[i] {
+            return false;
+        }
+        i += 1;
+    }
+    true
+}
+
+// The first n places of the table rise, and each is one of a Function mark.
+fn table_names(table: &[u16], n: usize, kinds: &[u8]) -> bool
+    requires { ⌜ (n ≤ length (now table)) × (length (now kinds) ≤ 4096) ⌝ }
+    ensures { λ r. ⌜ r ≡ tableNames (now (table .entry)) n (now (kinds .entry)) ⌝ }
+{
+    let mut i: usize = 0;
+    let mut least: usize = 0;
+    while i < n {
+        let t = wide(table[i]);
+        if t < least {
+            return false;
+        }
+        if kinds.len() <= t {
+            return false;
+        }
+        if kinds[t] != 2 {
+            return false;
+        }
+        least = t + 1;
+        i += 1;
+    }
+    true
+}
+
+// A well-formed state of the patch whose ops have these kinds.
+pub fn is_formed(
+    h: Place,
+    calls: &[u16; 256],
+    refs: &[u32; 256],
+    kinds: &[u8],
+    register: &[u64],
+    tape: &[u64],
+    table: &[u16],
+    channel: &[u64],
+    output: &[u64],
+    inputs: usize,
+) -> bool
+    requires { ⌜ (length (now calls) ≡ 256) × (length (now refs) ≡ 256) × (length (now kinds) ≤ 4096) ⌝ }
+    ensures { λ r. ⌜ r ≡ isFormed (now (kinds .entry)) inputs (held h (now (calls .entry)) (now (refs .entry)) (now (register .entry)) (now (tape .entry)) (now (table .entry)) (now (channel .entry)) (now (output .entry))) ⌝ }
+{
+    if !has_room(register, table, channel) {
+        return false;
+    }
+    if !in_limits(h) {
+        return false;
+    }
+    if !in_place(h, kinds.len(), inputs, output.len()) {
+        return false;
+    }
+    if !calls_below(calls, h.depth, kinds.len()) {
+        return false;
+    }
+    if !refs_within(refs, h.saved) {
+        return false;
+    }
+    table_names(table, h.functions, kinds)
+}

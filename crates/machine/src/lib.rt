@@ -1,0 +1,5 @@
+pub mod machine;
+pub mod formed;
+pub mod fresh;
+pub mod go;
+pub mod calls;

@@ -1,0 +1,6 @@
+pub mod Place
+pub mod Found
+pub mod Control
+pub mod Tape
+pub mod Lane
+pub mod Device

@@ -1,0 +1,64 @@
+// The cell ops and the lane-only ops.
+ghost use mathlib.Core.Path.{_≡_};
+ghost use Prim.Native.Nat.{ℕ, _+_, _≤_, _<_};
+ghost use lib.ListN.{length};
+ghost use Rattle.machine_ops.specs.Place.{laned, swapped};
+ghost use Rattle.machine_ops.specs.Lane.{cellOf, swapOf, aloneOf, offsetOf};
+use crate::place::Hop;
+use crate::place::Place;
+
+impl Place {
+    pub fn cell(self, op: lanes::lane::CellOp, n: usize, register: &mut [u64], tape: &[u64]) -> Hop
+        requires { ⌜ (self .pointer ≤ 1000000000) × (self .position < 4096) × (n ≤ 1024) × (1024 ≤ length (now register)) ⌝ }
+        ensures { λ r. ⌜ laned r (now (register .exit)) ≡ cellOf op n self (now (register .entry)) (now (tape .entry)) ⌝ }
+    {
+        let at = self.pointer;
+        let l = self.length;
+        if n == 0 {
+            return self.next();
+        }
+        if l < at + n {
+            return self.refuse(22);
+        }
+        if tape.len() < at + n {
+            return self.refuse(23);
+        }
+        lanes::loops::cell_lanes(op, register, &tape[at..], n);
+        self.next()
+    }
+
+    pub fn swap(self, n: usize, register: &mut [u64], tape: &mut [u64]) -> Hop
+        requires { ⌜ (self .pointer ≤ 1000000000) × (self .position < 4096) × (n ≤ 1024) × (1024 ≤ length (now register)) ⌝ }
+        ensures { λ r. ⌜ swapped r (now (register .exit)) (now (tape .exit)) ≡ swapOf n self (now (register .entry)) (now (tape .entry)) ⌝ }
+    {
+        let at = self.pointer;
+        let l = self.length;
+        if n == 0 {
+            return self.next();
+        }
+        if l < at + n {
+            return self.refuse(22);
+        }
+        if tape.len() < at + n {
+            return self.refuse(23);
+        }
+        lanes::loops::swap_lanes(register, &mut tape[at..], n);
+        self.next()
+    }
+
+    pub fn alone(self, op: lanes::lane::LaneOp, n: usize, register: &mut [u64]) -> Hop
+        requires { ⌜ (self .position < 4096) × (n ≤ 1024) × (1024 ≤ length (now register)) ⌝ }
+        ensures { λ r. ⌜ laned r (now (register .exit)) ≡ aloneOf op n self (now (register .entry)) ⌝ }
+    {
+        lanes::loops::alone_lanes(op, register, n);
+        self.next()
+    }
+
+    pub fn offset(self, v: u64, n: usize, register: &mut [u64]) -> Hop
+        requires { ⌜ (self .position < 4096) × (n ≤ 1024) × (1024 ≤ length (now register)) ⌝ }
+        ensures { λ r. ⌜ laned r (now (register .exit)) ≡ offsetOf v n self (now (register .entry)) ⌝ }
+    {
+        lanes::loops::offset_lanes(v, register, n);
+        self.next()
+    }
+}

@@ -1,0 +1,206 @@
+-- Function, Call, Return, While, If, Else and End are the model's, laid. Assumes nothing.
+use mathlib.Core.Path.{_≡_, _∙_, refl, ap, sym}
+use mathlib.Core.Bool.{Bool, true, false, cond}
+use mathlib.Core.List.{List, [], _∷_, _++_, map, reverse}
+use mathlib.Core.Option.{Option, none, some}
+use Prim.Native.Nat.{ℕ, zero, suc, _+_, _-_, _^_, _≤_, _<_}
+use native.Mathlib.Omega.{arith}
+use native.Mathlib.Numerals.{add-one}
+use lib.Dec.{leb, ltb, eqb}
+use lib.ListN.{length, getD, take, drop, length-drop, length-map, List·getD-eq-default}
+use lib.ListN
+use lib.Seq.{getD-take, length-take-le, take-append-seam}
+use borrow.Author.Tests.{leb-true, leb-false, le-leb, lt-leb, ltb-true, le-ltb, eqb-true, eqb-false}
+use Rattle.ops.specs.Storage.{fill}
+use Rattle.ops.specs.Op.{Op, Mark, isFunction, isWhile}
+use Rattle.ops.specs.Op.Control.{function, call, ret, while, if, else, end}
+use Rattle.testing_device.proofs.Words.{byCase}
+use Rattle.machine_model.specs.State.{State, Given, goTo, on, withTable, withCalls, halt}
+use Rattle.machine_model.specs.Scan.{opAt, marks, functions, toEnd, toElse, toOpen, kth}
+use Rattle.machine_model.specs.Step.{Outcome, turn, pick, bar, jump, found, called, back, again, enter}
+use Rattle.machine_model.specs.Step.Outcome.{next, refused}
+use Rattle.machine_model.specs.Formed.{Formed, Marked}
+use Rattle.machine_model.specs.Limited.{count}
+use Rattle.machine_model.proofs.Scans.{end-below, else-below, function-below, kth-is}
+use Rattle.machine_model.proofs.Table.{each-enter, rising-enter, marks-few}
+use Rattle.machine_model.proofs.Stacks.{pushed, back-popped}
+use Rattle.machine_ops.specs.Place as m
+use Rattle.machine_ops.specs.Found.{rowMark, rowFunction, placeOr, endOf, elseOf, openOf, markOf, entry, enteredIn, countedIn}
+use Rattle.machine_ops.specs.Control.{jumpOf, functionOf, callOf, retOf, whileOf, ifOf, elsesOf, endsOf, inTable}
+use Rattle.machine_step.specs.Held.{Held, held, After, steering}
+use Rattle.machine_step.specs.View.{view, lay, laid}
+use Rattle.machine_step.specs.Fits.{Counted}
+use Rattle.machine_step.proofs.Lists.{Laid, laid-same, laid-push, laid-fill}
+use Rattle.machine_step.proofs.Over.{Over, over-same, over-num, over-calls, went, meets}
+
+-- the rows ks are to the searches what the ops are
+pub record Rows (os : List Op) (ks : List ℕ) : Type 0 where
+  pub many : length os ≡ length ks
+  pub marked : marks os ≡ map rowMark ks
+  pub entered : functions os ≡ map rowFunction ks
+  pub looped : (j : ℕ) → isWhile (opAt os j) ≡ eqb (getD ks j 0) 5
+
+module _ (g : Given) (ks : List ℕ) (r : Rows (g .ops) ks) (c : Held) (h : Counted c) where
+  -- on to the op after v
+  go-is : (v : ℕ) → went (held (m.atPosition (c .place) (v + 1)) (c .calls) (c .refs) (c .register) (c .tape) (c .table) (c .channel) (c .output)) ≡ laid c (next (goTo (view c) (suc v)))
+  go-is v = meets c _ _ (over-num c h _ _ _ _ _ _) (rw (add-one v) refl)
+
+  -- past the partner that a search gives, or 20
+  jump-is : (x : Option ℕ) → ((j : ℕ) → x ≡ some j → j < length ks)
+      → steering c (m.steered (jumpOf ks (c .place) (placeOr (length ks) x)) (c .calls) (c .table)) ≡ laid c (jump (view c) x)
+  unfolding jumpOf m.pick
+  jump-is none b = rw (le-leb (length ks) (length ks) (omega arith)) refl
+  jump-is (some j) b = rw (lt-leb (length ks) j (b j refl)) (go-is j)
+
+  module _ (here : c .place .position < length ks) where
+    ends : (j : ℕ) → toEnd (suc (c .place .position)) 0 (drop (suc (c .place .position)) (map rowMark ks)) ≡ some j → j < length ks
+    ends j e =
+        let i = suc (c .place .position) in
+        omega (arith, end-below i 0 (drop i (map rowMark ks)) j e, length-drop i (map rowMark ks), length-map ks rowMark)
+
+    elses : (j : ℕ) → toElse (suc (c .place .position)) 0 (drop (suc (c .place .position)) (map rowMark ks)) ≡ some j → j < length ks
+    elses j e =
+        let i = suc (c .place .position) in
+        omega (arith, else-below i 0 (drop i (map rowMark ks)) j e, length-drop i (map rowMark ks), length-map ks rowMark)
+
+    -- to after the End of the bracket that is open after this op
+    skip-is : steering c (m.steered (jumpOf ks (c .place) (endOf ks (c .place .position + 1))) (c .calls) (c .table))
+        ≡ laid c (jump (view c) (toEnd (suc (c .place .position)) 0 (drop (suc (c .place .position)) (marks (g .ops)))))
+    unfolding endOf
+    skip-is = rw (add-one (c .place .position), r .marked) (jump-is (toEnd (suc (c .place .position)) 0 (drop (suc (c .place .position)) (map rowMark ks))) ends)
+
+    skip-else : steering c (m.steered (jumpOf ks (c .place) (elseOf ks (c .place .position + 1))) (c .calls) (c .table))
+        ≡ laid c (jump (view c) (toElse (suc (c .place .position)) 0 (drop (suc (c .place .position)) (marks (g .ops)))))
+    unfolding elseOf
+    skip-else = rw (add-one (c .place .position), r .marked) (jump-is (toElse (suc (c .place .position)) 0 (drop (suc (c .place .position)) (map rowMark ks))) elses)
+
+    pub while-is : 0 < c .place .lanes → steering c (m.steered (whileOf ks (c .place) (c .register)) (c .calls) (c .table)) ≡ laid c (turn g while (view c))
+    unfolding whileOf m.pick turn pick
+    while-is w =
+        let l = getD-take (c .place .lanes) (c .register) 0 0 w in
+        byCase (eqb (getD (c .register) 0 0) 0)
+        (λ e. rw (l, e) skip-is)
+        (λ e. rw (l, e) (go-is (c .place .position)))
+
+    pub if-is : 0 < c .place .lanes → steering c (m.steered (ifOf ks (c .place) (c .register)) (c .calls) (c .table)) ≡ laid c (turn g if (view c))
+    unfolding ifOf m.pick turn pick
+    if-is w =
+        let l = getD-take (c .place .lanes) (c .register) 0 0 w in
+        byCase (eqb (getD (c .register) 0 0) 0)
+        (λ e. rw (l, e) skip-else)
+        (λ e. rw (l, e) (go-is (c .place .position)))
+
+    pub else-is : steering c (m.steered (elsesOf ks (c .place)) (c .calls) (c .table)) ≡ laid c (turn g else (view c))
+    unfolding elsesOf turn
+    else-is = skip-is
+
+  -- ---- End
+
+  again-is : (x : Option ℕ)
+      → steering c (m.steered (m.pick (leb (length ks) (placeOr (length ks) x)) (m.hop 0 (m.next (c .place))) (m.pick (eqb (getD ks (placeOr (length ks) x) 0) 5) (m.hop 0 (m.atPosition (c .place) (placeOr (length ks) x + 1))) (m.hop 0 (m.next (c .place))))) (c .calls) (c .table))
+      ≡ laid c (again g (view c) x)
+  unfolding m.pick
+  again-is none = rw (le-leb (length ks) (length ks) (omega arith)) (go-is (c .place .position))
+  again-is (some j) =
+      byCase (leb (length ks) j)
+      (λ e. let b = leb-true (length ks) j e in
+      rw (e, r .looped j, List·getD-eq-default ks 0 b) (go-is (c .place .position)))
+      (λ e. byCase (eqb (getD ks j 0) 5)
+      (λ f. rw (e, r .looped j, f) (go-is j))
+      (λ f. rw (e, r .looped j, f) (go-is (c .place .position))))
+
+  pub end-is : 0 < c .place .lanes → steering c (m.steered (endsOf ks (c .place) (c .register)) (c .calls) (c .table)) ≡ laid c (turn g end (view c))
+  unfolding endsOf openOf m.pick turn pick
+  end-is w =
+      let l = getD-take (c .place .lanes) (c .register) 0 0 w in
+      byCase (eqb (getD (c .register) 0 0) 0)
+      (λ e. rw (l, e) (go-is (c .place .position)))
+      (λ e. rw (l, e, r .marked) (again-is (toOpen 0 (reverse (take (c .place .position) (map rowMark ks))))))
+
+  -- ---- Return
+
+  none-saved : (s : State) (l : List ℕ) (n : ℕ) → n ≡ 0 → back s (take n l) ≡ next (halt (on s))
+  none-saved s l n e = rw e refl
+
+  pub ret-is : steering c (m.steered (retOf (c .place) (c .calls)) (c .calls) (c .table)) ≡ laid c (turn g ret (view c))
+  unfolding retOf m.pick turn
+  ret-is =
+      let d = c .place .depth in let z = h .depth in let q = h .call-room in let o = over-same c h in
+      byCase (eqb d 0)
+      (λ e. rw (e, none-saved (view c) (c .calls) d (eqb-true d 0 e)) (meets c _ _ (over-calls c h _ _ _ _ _ _ (o .calls) (o .table)) (rw (add-one (c .place .position)) refl)))
+      (λ e. let k : 0 < d = omega (arith, eqb-false d 0 e) in let b : d ≤ length (c .calls) = omega arith in
+      rw (e, back-popped (view c) (c .calls) d k b)
+      (meets c _ _ (over-calls c h _ _ _ _ _ _ (laid-same (d - 1) (c .calls) (omega arith)) (o .table)) (rw (add-one (getD (c .calls) (d - 1) 0)) refl)))
+
+  -- ---- Function and Call
+
+  module _ (f : Formed g (view c)) (few : count (functions (g .ops)) ≤ 256) where
+    -- the table has room for a mark
+    room : (v : ℕ) → Marked g v → length (entry v (c .place .functions) (c .table)) ≤ length (c .table)
+    room v k =
+        let t = take (c .place .functions) (c .table) in
+        omega (arith, marks-few g (enter v t) (rising-enter v t (f .rising)) (each-enter (Marked g) v t k (f .marked)), few, h .tabled)
+
+    counted-is : (v : ℕ) → Marked g v → countedIn v (c .place .functions) (c .table) ≡ length (entry v (c .place .functions) (c .table))
+    unfolding countedIn m.pick
+    counted-is v k = rw (le-ltb (length (c .table)) (length (entry v (c .place .functions) (c .table))) (room v k)) refl
+
+    entered-is : (v : ℕ) → Marked g v → enteredIn v (c .place .functions) (c .table) ≡ entry v (c .place .functions) (c .table) ++ drop (length (entry v (c .place .functions) (c .table))) (c .table)
+    unfolding enteredIn fill m.pick
+    entered-is v k = rw (le-ltb (length (c .table)) (length (entry v (c .place .functions) (c .table))) (room v k)) refl
+
+    -- a mark entered in the table, and the calls xs
+    enter-went : (v at d : ℕ) (cs xs : List ℕ) → Marked g v → Laid d (c .calls) cs → take d cs ≡ xs
+        → went (held (m.atPosition (m.ofFunctions (m.ofDepth (c .place) d) (countedIn v (c .place .functions) (c .table))) (at + 1)) cs (c .refs) (c .register) (c .tape) (enteredIn v (c .place .functions) (c .table)) (c .channel) (c .output))
+        ≡ laid c (next (withTable (withCalls (goTo (view c) (suc at)) xs) (enter v (view c .table))))
+    enter-went v at d cs xs k l q =
+        let e = entry v (c .place .functions) (c .table) in
+        rw (counted-is v k, entered-is v k)
+        (meets c _ _ (over-calls c h _ _ _ _ _ _ l (laid-fill e (c .table) (length e) refl (room v k)))
+        (rw (take-append-seam e (drop (length e) (c .table)), q, add-one at) refl))
+
+    function-by : (at : ℕ) → Marked g at → (x : Option ℕ) → ((j : ℕ) → x ≡ some j → j < length ks)
+        → steering c (inTable (c .calls) (m.pick (leb (length ks) (placeOr (length ks) x)) (m.laned (m.hop 20 (c .place)) (c .table)) (m.laned (m.hop 0 (m.atPosition (m.ofFunctions (c .place) (countedIn at (c .place .functions) (c .table))) (placeOr (length ks) x + 1))) (enteredIn at (c .place .functions) (c .table)))))
+        ≡ laid c (jump (withTable (view c) (enter at (view c .table))) x)
+    unfolding m.pick
+    function-by at k none b = rw (le-leb (length ks) (length ks) (omega arith)) refl
+    function-by at k (some j) b = rw (lt-leb (length ks) j (b j refl)) (enter-went at j (c .place .depth) (c .calls) (view c .calls) k (over-same c h .calls) refl)
+
+    pub function-is : c .place .position < length ks → Marked g (c .place .position)
+        → steering c (inTable (c .calls) (functionOf ks (c .place) (c .table))) ≡ laid c (turn g function (view c))
+    unfolding functionOf endOf turn
+    function-is here k =
+        let i = suc (c .place .position) in
+        rw (add-one (c .place .position), r .marked) (function-by (c .place .position) k (toEnd i 0 (drop i (map rowMark ks))) (ends here))
+
+    found-by : (x : Option ℕ) → ((j : ℕ) → x ≡ some j → Marked g j) → c .place .depth < 256
+        → steering c (m.pick (leb (length ks) (placeOr (length ks) x)) (m.steered (m.hop 29 (c .place)) (c .calls) (c .table)) (m.steered (m.hop 0 (m.atPosition (m.ofFunctions (m.ofDepth (c .place) (c .place .depth + 1)) (countedIn (placeOr (length ks) x) (c .place .functions) (c .table))) (placeOr (length ks) x + 1))) (lib.ListN.set (c .calls) (c .place .depth) (c .place .position)) (enteredIn (placeOr (length ks) x) (c .place .functions) (c .table))))
+        ≡ laid c (found (view c) x)
+    unfolding m.pick
+    found-by none k b = rw (le-leb (length ks) (length ks) (omega arith)) refl
+    found-by (some j) k b =
+        let d = c .place .depth in let at = c .place .position in
+        let q = h .call-room in let y : d < length (c .calls) = omega arith in
+        let l : j < length ks = omega (arith, function-below (g .ops) j (k j refl), r .many) in
+        rw (lt-leb (length ks) j l)
+        (enter-went j j (d + 1) (lib.ListN.set (c .calls) d at) (view c .calls ++ (at ∷ [])) (k j refl) (laid-push (c .calls) d at y) (pushed (c .calls) d at y))
+
+    pub call-is : 0 < c .place .lanes → steering c (callOf ks (c .place) (c .calls) (c .register) (c .table)) ≡ laid c (turn g call (view c))
+    unfolding callOf markOf m.pick turn bar pick
+    call-is w =
+        let v = getD (c .register) 0 0 in let d = c .place .depth in let u = c .place .functions in let at = c .place .position in
+        let z = h .call-room in let o = over-same c h in
+        let l = getD-take (c .place .lanes) (c .register) 0 0 w in
+        let q = length-take-le d (c .calls) (let y = h .depth in omega arith) in
+        let t = length-take-le u (c .table) (h .functions) in
+        byCase (leb (2 ^ 63) v)
+        (λ e. rw (l, e) refl)
+        (λ e. byCase (leb 256 d)
+        (λ i. rw (l, e, q, i) refl)
+        (λ i. let b = leb-false 256 d i in let y : d < length (c .calls) = omega arith in
+        byCase (ltb v u)
+        (λ j. rw (l, e, q, i, t, j, getD-take u (c .table) v 0 (ltb-true v u j))
+        (meets c _ _ (over-calls c h _ _ _ _ _ _ (laid-push (c .calls) d at y) (o .table)) (rw (pushed (c .calls) d at y, add-one (getD (c .table) v 0)) refl)))
+        (λ j. rw (l, e, q, i, t, j)
+        (found-by (kth 0 v (map rowFunction ks)) (λ j e. kth-is (g .ops) v j (rw (r .entered) e)) b
+        ∙ ap (λ (bs : List Bool). laid c (found (view c) (kth 0 v bs))) (sym (r .entered))))))

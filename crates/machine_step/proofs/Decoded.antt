@@ -1,0 +1,261 @@
+-- The arrays that are read of a good file match its ops, and its ops are within the limits. Assumes nothing.
+use mathlib.Core.Path.{_≡_, _∙_, refl, ap, ap₂, sym, subst}
+use mathlib.Core.Bool.{Bool, true, false, cond}
+use mathlib.Core.List.{List, [], _∷_, map}
+use Prim.Native.Nat.{ℕ, zero, suc, _+_, _*_, _/_, _%_, _^_, _≤_, _<_}
+use native.Mathlib.Omega.{arith}
+use native.Mathlib.Nat.{not-suc-le-zero, le-of-suc-le-suc}
+use lib.Dec.{leb, eqb}
+use lib.ListN.{length, getD, length-map, List·getD-map, List·getD-eq-default}
+use borrow.Author.Tests.{leb-true, leb-false, eqb-true}
+use Rattle.ops.specs.Bytes.{u16At, u32At, u64At, valuesAt}
+use Rattle.ops.specs.Kinds.{shape, kindAt, indexOf, runNeed}
+use Rattle.ops.specs.Record.{lengthOk, countOf}
+use Rattle.ops.specs.Patch.{Item, item, patchOf, kindIn, countIn, needIn, placeIn, markOf}
+use Rattle.ops.specs.Op.{Op, Plain, Mark, mark, isFunction, isWhile, kindOf, needs}
+use Rattle.ops.specs.Op.Plain.{comment, store, move, swap, locate, offset, deref, refer, cell, lane, get, put, peek, poke, alloc, free}
+use Rattle.ops.specs.Op.Op.{control, set, load, plain}
+use Rattle.ops.specs.Ops.{rowAt, plainWith, opWith, plainCount, opCount}
+use Rattle.ops.specs.Ops as file
+use Rattle.ops.proofs.Whole.{Tells, tells}
+use Rattle.ops.proofs.Items.{IsItem, inside, Every, items-are, item-at, few-items, marksIn, few-marks}
+use Rattle.ops.proofs.Rows.{Row, row-rule}
+use Rattle.ops.proofs.Meaning.{Means, means}
+use Rattle.testing_device.proofs.Words.{byCase}
+use Rattle.machine_model.specs.State.{Given, lanes}
+use Rattle.machine_model.specs.Scan.{opAt, marks, functions}
+use Rattle.machine_model.specs.Formed.{Each}
+use Rattle.machine_model.specs.Limited.{spanOf, span, Word, numbersOf, numbers, count, Limited}
+use Rattle.machine_ops.specs.Found.{rowMark, rowFunction}
+use Rattle.machine_step.specs.Held.{Code}
+use Rattle.machine_step.specs.Fine.{Fine}
+use Rattle.machine_step.specs.Decoded.{codeOf, givenOf}
+use Rattle.machine_step.proofs.Families.{Told, op-row}
+use Rattle.machine_step.proofs.Control.{Rows}
+
+-- ---- each item and its op
+
+-- the i-th item
+abbrev pub itemOf : List ℕ → ℕ → Item
+itemOf s i = getD (patchOf s .items) i (item 0 0 0)
+
+pub told : (s : List ℕ) (x : Item) → IsItem s x → Told (x .kind) (file.opAt s x)
+told s x h = subst (λ (k : ℕ). Told k (file.opAt s x)) (means s x h .row) (op-row (file.opAt s x))
+
+pub row-of : (s : List ℕ) (x : Item) → IsItem s x → Row (x .kind)
+row-of s x h =
+    let t = tells s (h .first) (x .kind) (x .place) (h .len) (x .count) (h .next) (h .is) in
+    row-rule (x .kind) (t .small) (t .kept)
+
+-- ---- the rows of all of them
+
+module _ (s : List ℕ) where
+  marked-are : (xs : List Item) → Every (IsItem s) xs → marks (map (file.opAt s) xs) ≡ map rowMark (map kindIn xs)
+  marked-are [] e = refl
+  marked-are (x ∷ xs) e = ap₂ (λ (a : Mark) (l : List Mark). a ∷ l) (sym (told s x (e .0) .marked)) (marked-are xs (e .1))
+
+  entered-are : (xs : List Item) → Every (IsItem s) xs → functions (map (file.opAt s) xs) ≡ map rowFunction (map kindIn xs)
+  entered-are [] e = refl
+  entered-are (x ∷ xs) e = ap₂ (λ (a : Bool) (l : List Bool). a ∷ l) (sym (told s x (e .0) .entered)) (entered-are xs (e .1))
+
+  looped-are : (xs : List Item) → Every (IsItem s) xs → (j : ℕ) → isWhile (opAt (map (file.opAt s) xs) j) ≡ eqb (getD (map kindIn xs) j 0) 5
+  looped-are [] e j = refl
+  looped-are (x ∷ xs) e zero = sym (told s x (e .0) .looped)
+  looped-are (x ∷ xs) e (suc j) = looped-are xs (e .1) j
+
+  -- the rows that the machine reads are to its searches what the ops are
+  pub rows : (input : List ℕ) (room : ℕ) → Rows (givenOf s input room .ops) (codeOf s .kinds)
+  unfolding codeOf givenOf
+  rows input room =
+      let xs = patchOf s .items in let e = items-are s in
+      record {
+        many = length-map xs (file.opAt s) ∙ sym (length-map xs kindIn);
+        marked = marked-are xs e;
+        entered = entered-are xs e;
+        looped = looped-are xs e;
+      }
+
+-- ---- an array's entry is its item's
+
+op-in : (f : Item → Op) (xs : List Item) (i : ℕ) → i < length xs → opAt (map f xs) i ≡ f (getD xs i (item 0 0 0))
+op-in f [] i h = absurd (not-suc-le-zero h)
+op-in f (x ∷ xs) zero h = refl
+op-in f (x ∷ xs) (suc i) h = op-in f xs i (le-of-suc-le-suc h)
+
+module _ (s : List ℕ) where
+  pub many-kinds : length (codeOf s .kinds) ≡ length (patchOf s .items)
+  unfolding codeOf
+  many-kinds = length-map (patchOf s .items) kindIn
+
+  pub op-is-item : (input : List ℕ) (room i : ℕ) → i < length (codeOf s .kinds) → opAt (givenOf s input room .ops) i ≡ file.opAt s (itemOf s i)
+  unfolding givenOf
+  op-is-item input room i h = op-in (file.opAt s) (patchOf s .items) i (rw many-kinds at h)
+
+  pub kind-is : (i : ℕ) → getD (codeOf s .kinds) i 0 ≡ itemOf s i .kind
+  unfolding codeOf
+  kind-is i = List·getD-map kindIn (patchOf s .items) i (item 0 0 0)
+
+  pub count-is : (i : ℕ) → getD (codeOf s .counts) i 0 ≡ itemOf s i .count
+  unfolding codeOf
+  count-is i = List·getD-map countIn (patchOf s .items) i (item 0 0 0)
+
+  pub place-is : (i : ℕ) → getD (codeOf s .places) i 0 ≡ itemOf s i .place
+  unfolding codeOf
+  place-is i = List·getD-map placeIn (patchOf s .items) i (item 0 0 0)
+
+  pub bytes-are : codeOf s .bytes ≡ s
+  unfolding codeOf
+  bytes-are = refl
+
+  pub is-item : (i : ℕ) → i < length (codeOf s .kinds) → IsItem s (itemOf s i)
+  is-item i h = item-at s (item 0 0 0) i (rw many-kinds at h)
+
+  pub need-is : (i : ℕ) → i < length (codeOf s .kinds) → getD (codeOf s .needs) i 0 ≡ needs (file.opAt s (itemOf s i))
+  unfolding codeOf runNeed kindAt
+  need-is i h = List·getD-map needIn (patchOf s .items) i (item 0 0 0) ∙ sym (means s (itemOf s i) (is-item i h) .needed)
+
+-- ---- payloads inside the file
+
+-- what the record of the i-th item tells
+module _ (s : List ℕ) (i : ℕ) (h : i < length (codeOf s .kinds)) where
+  len : ℕ
+  len = is-item s i h .len
+
+  whole : Tells s (is-item s i h .first) (itemOf s i .kind) (itemOf s i .place) len (itemOf s i .count) (is-item s i h .next)
+  unfolding len
+  whole = let w = is-item s i h in tells s (w .first) (itemOf s i .kind) (itemOf s i .place) (w .len) (itemOf s i .count) (w .next) (w .is)
+
+  within : itemOf s i .place + len ≤ length s
+  within = omega (arith, whole .size, whole .within)
+
+  pub few : getD (codeOf s .counts) i 0 ≤ 1024
+  few = omega (arith, count-is s i, whole .few)
+
+  -- a payload of the shape that row k has
+  fitted : (k : ℕ) → getD (codeOf s .kinds) i 0 ≡ k → lengthOk (shape (kindAt k)) len ≡ true
+  fitted k e = subst (λ (z : ℕ). lengthOk (shape (kindAt z)) len ≡ true) (sym (kind-is s i) ∙ e) (whole .fits)
+
+  values-in : (k : ℕ) → shape (kindAt k) ≡ 2 → getD (codeOf s .kinds) i 0 ≡ k → getD (codeOf s .places) i 0 + 8 * getD (codeOf s .counts) i 0 ≤ length s
+  unfolding countOf
+  values-in k q e =
+      let n : itemOf s i .count ≡ countOf s 2 (itemOf s i .place) len
+      = whole .counts ∙ ap (λ (z : ℕ). countOf s z (itemOf s i .place) len) (ap (λ (z : ℕ). shape (kindAt z)) (sym (kind-is s i) ∙ e) ∙ q) in
+      omega (arith, place-is s i, count-is s i, n, within)
+
+  -- n bytes of a payload that has m of them
+  bytes-in : (n m : ℕ) → n ≤ m → eqb len m ≡ true → getD (codeOf s .places) i 0 + n ≤ length s
+  bytes-in n m b e = omega (arith, place-is s i, eqb-true len m e, within)
+
+-- the payloads of a good file lie in its bytes, and its counts are within the limit
+pub fine : (s : List ℕ) → Fine (codeOf s)
+unfolding codeOf lengthOk kindAt
+fine s =
+    let xs = patchOf s .items in let n = length-map xs kindIn in
+    record {
+      many-counts = length-map xs countIn ∙ sym n;
+      many-needs = length-map xs needIn ∙ sym n;
+      many-places = length-map xs placeIn ∙ sym n;
+      count = few s;
+      ints = λ i h e. values-in s i h 1 refl e;
+      floats = λ i h e. values-in s i h 40 refl e;
+      amount = λ i h e. bytes-in s i h 8 8 (omega arith) (fitted s i h 11 e);
+      by = λ i h e. bytes-in s i h 8 12 (omega arith) (fitted s i h 16 e);
+      gets = λ i h e. bytes-in s i h 2 2 (omega arith) (fitted s i h 38 e);
+      puts = λ i h e. bytes-in s i h 2 2 (omega arith) (fitted s i h 39 e);
+    }
+
+-- ---- within the limits
+
+-- every byte of the file is one
+pub record Bytes (s : List ℕ) : Type 0 where
+  pub at : (i : ℕ) → getD s i 0 < 256
+
+module _ (s : List ℕ) where
+  marks-counted : (xs : List Item) → count (map rowFunction (map kindIn xs)) ≡ marksIn xs
+  unfolding rowFunction markOf
+  marks-counted [] = refl
+  marks-counted (x ∷ xs) = byCase (eqb (x .kind) 2) (λ e. rw (e, marks-counted xs) (omega arith)) (λ e. rw (e, marks-counted xs) (omega arith))
+
+  -- "256 Function marks"
+  pub few-entered : (input : List ℕ) (room : ℕ) → count (functions (givenOf s input room .ops)) ≤ 256
+  unfolding givenOf
+  few-entered input room = rw (entered-are s (patchOf s .items) (items-are s), marks-counted (patchOf s .items)) (few-marks s)
+
+  -- an op spans no more than it counts
+  plain-span : (p : Plain) → spanOf p ≤ plainCount p
+  plain-span (comment bs) = omega arith
+  plain-span (store n) = omega arith
+  plain-span (move m) = omega arith
+  plain-span (swap n) = omega arith
+  plain-span locate = omega arith
+  plain-span (offset v n) = omega arith
+  plain-span deref = omega arith
+  plain-span refer = omega arith
+  plain-span (cell k n) = omega arith
+  plain-span (lane k n) = omega arith
+  plain-span (get m) = omega arith
+  plain-span (put m) = omega arith
+  plain-span peek = omega arith
+  plain-span poke = omega arith
+  plain-span alloc = omega arith
+  plain-span free = omega arith
+
+  span-count : (o : Op) → span o ≤ opCount o
+  span-count (control c) = omega arith
+  span-count (set k vs) = omega arith
+  span-count (load n) = omega arith
+  span-count (plain p) = plain-span p
+
+  module _ (b : Bytes s) where
+    word-at : (i : ℕ) → Word (u64At s i)
+    word-at i =
+        omega (arith, b .at i, b .at (i + 1), b .at (i + 2), b .at (i + 2 + 1), b .at (i + 4), b .at (i + 4 + 1), b .at (i + 4 + 2), b .at (i + 4 + 2 + 1))
+
+    words-at : (p n : ℕ) → Each Word (valuesAt s p n)
+    unfolding valuesAt
+    words-at p zero = tt
+    words-at p (suc n) = (word-at p, words-at (p + 8) n)
+
+    plain-words : (p n : ℕ) (q : Plain) → Each Word (numbersOf (plainWith s p n q))
+    plain-words p n (comment bs) = tt
+    plain-words p n (store m) = tt
+    plain-words p n (move v) = (word-at p, tt)
+    plain-words p n (swap m) = tt
+    plain-words p n locate = tt
+    plain-words p n (offset v m) = (word-at p, tt)
+    plain-words p n deref = tt
+    plain-words p n refer = tt
+    plain-words p n (cell k m) = tt
+    plain-words p n (lane k m) = tt
+    plain-words p n (get m) = tt
+    plain-words p n (put m) = tt
+    plain-words p n peek = tt
+    plain-words p n poke = tt
+    plain-words p n alloc = tt
+    plain-words p n free = tt
+
+    op-words : (p n : ℕ) (o : Op) → Each Word (numbers (opWith s p n o))
+    op-words p n (control c) = tt
+    op-words p n (set k vs) = words-at p n
+    op-words p n (load m) = tt
+    op-words p n (plain q) = plain-words p n q
+
+    -- what holds of each item's op, and of a comment, holds of the op at any place
+    each-op : (P : Op → Type 0) (input : List ℕ) (room : ℕ) → P (plain (comment [])) → ((x : Item) → IsItem s x → P (file.opAt s x)) → (i : ℕ) → P (opAt (givenOf s input room .ops) i)
+    each-op P input room z f i =
+        byCase (leb (length (codeOf s .kinds)) i)
+        (λ e. let l : length (givenOf s input room .ops) ≤ i = omega (arith, leb-true (length (codeOf s .kinds)) i e, rows s input room .many) in
+        subst P (sym (List·getD-eq-default (givenOf s input room .ops) (plain (comment [])) l)) z)
+        (λ e. let l = leb-false (length (codeOf s .kinds)) i e in
+        subst P (sym (op-is-item s input room i l)) (f (itemOf s i) (is-item s i l)))
+
+    -- the ops of a file are within the limits
+    pub limited : (input : List ℕ) (room : ℕ) → Limited (givenOf s input room .ops)
+    unfolding file.opAt
+    limited input room =
+        record {
+          few-ops = omega (arith, rows s input room .many, many-kinds s, few-items s);
+          few-marks = few-entered input room;
+          spans = each-op (λ o. span o ≤ lanes) input room (omega arith) (λ x h. omega (arith, span-count (file.opAt s x), means s x h .count, inside s x h .count));
+          words = each-op (λ o. Each Word (numbers o)) input room tt (λ x h. op-words (x .place) (x .count) (rowAt (x .kind)));
+        }

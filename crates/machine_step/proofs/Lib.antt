@@ -1,0 +1,9 @@
+pub mod Lists
+pub mod Over
+pub mod Lanes
+pub mod Tape
+pub mod Device
+pub mod Control
+pub mod Families
+pub mod Decoded
+pub mod Steps

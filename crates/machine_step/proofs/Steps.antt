@@ -1,0 +1,124 @@
+-- A step as the code makes it is the model's step, laid. Assumes nothing.
+use mathlib.Core.Path.{_≡_, _∙_, refl, ap, sym, subst}
+use mathlib.Core.Bool.{Bool, true, false, _||_}
+use mathlib.Core.List.{List}
+use Prim.Native.Nat.{ℕ, _+_, _≤_, _<_}
+use native.Mathlib.Omega.{arith}
+use lib.Dec.{leb, ltb, eqb}
+use lib.ListN.{length, getD}
+use lib.Seq.{length-take-le}
+use borrow.Author.Tests.{ltb-false, lt-leb}
+use Rattle.ops.specs.Bytes.{u16At, u32At, u64At}
+use Rattle.ops.specs.Kinds.{indexOf}
+use Rattle.ops.specs.Op.{Control, Plain, Op, isFunction, needs, kindOf, plainKind, controlKind}
+use Rattle.ops.specs.Op.Control.{function, call, ret, while, if, else, end}
+use Rattle.ops.specs.Op.Plain.{comment, store, move, swap, locate, offset, deref, refer, cell, lane, get, put, peek, poke, alloc, free}
+use Rattle.ops.specs.Op.Sort.{ints, floats}
+use Rattle.ops.specs.Op.Op.{control, set, load, plain}
+use Rattle.ops.specs.Ops.{modeIn, rowAt, opWith, plainWith, opCount, plainCount}
+use Rattle.ops.specs.Ops as file
+use Rattle.ops.proofs.Meaning.{means}
+use Rattle.testing_device.proofs.Words.{byCase}
+use Rattle.machine_model.specs.State.{State, Given}
+use Rattle.machine_model.specs.Scan.{opAt, functions}
+use Rattle.machine_model.specs.Step.{Outcome, exec, act, turn, step, op, pick, bar}
+use Rattle.machine_model.specs.Step.Outcome.{finished, refused, next}
+use Rattle.machine_model.specs.Formed.{Formed}
+use Rattle.machine_model.specs.Limited.{count}
+use Rattle.machine_model.proofs.Outcomes.{or-right}
+use Rattle.machine_ops.specs.Place as m
+use Rattle.machine_ops.specs.Control.{controlOf}
+use Rattle.machine_ops.specs.Tape.{tapeOf}
+use Rattle.machine_ops.specs.Device.{deviceOf}
+use Rattle.machine_step.specs.Held.{Held, After, Code}
+use Rattle.machine_step.specs.Family.{familyOf}
+use Rattle.machine_step.specs.Step.{opOf, stepOf}
+use Rattle.machine_step.specs.View.{view, lay, laid}
+use Rattle.machine_step.specs.Decoded.{codeOf, givenOf}
+use Rattle.machine_step.specs.Fits.{Counted, Fits}
+use Rattle.machine_step.specs.Run.{isOver}
+use Rattle.machine_step.proofs.Families.{cell-row, lane-row}
+use Rattle.machine_step.proofs.Control.{Rows, function-is, call-is, ret-is, while-is, if-is, else-is, end-is}
+use Rattle.machine_step.proofs.Tape.{next-is, set-is, load-is, store-is, move-is, where-is, deref-is, refer-is, alloc-is}
+use Rattle.machine_step.proofs.Lanes.{cell-is, swap-is, alone-is, offset-is}
+use Rattle.machine_step.proofs.Device.{get-is, put-is, peek-is, poke-is}
+use Rattle.machine_step.proofs.Decoded.{itemOf, row-of, rows, many-kinds, op-is-item, kind-is, count-is, place-is, need-is, is-item, few, few-entered, bytes-are}
+
+-- an op of any row, with n what its payload counts
+module _ (g : Given) (ks bs : List ℕ) (n a : ℕ) (c : Held) (h : Counted c) (r : Rows (g .ops) ks) (f : Formed g (view c))
+    (marked : count (functions (g .ops)) ≤ 256) (room : g .room ≡ length (c .output)) (here : c .place .position < length ks) (small : n ≤ 1024) where
+  control-op : (x : Control) → opAt (g .ops) (c .place .position) ≡ control x → needs (control x) ≤ c .place .lanes
+      → opOf (indexOf (controlKind x)) n a ks bs (g .input) c ≡ laid c (exec g (control x) (view c))
+  unfolding indexOf opOf familyOf controlOf m.pick exec
+  control-op function e w = function-is g ks r c h f marked here (ap isFunction e)
+  control-op call e w = call-is g ks r c h f marked w
+  control-op ret e w = ret-is g ks r c h
+  control-op while e w = while-is g ks r c h here w
+  control-op if e w = if-is g ks r c h here w
+  control-op else e w = else-is g ks r c h here
+  control-op end e w = end-is g ks r c h w
+
+  plain-op : (p : Plain) → plainCount (plainWith bs a n p) ≡ n → needs (plain (plainWith bs a n p)) ≤ c .place .lanes
+      → opOf (indexOf (plainKind p)) n a ks bs (g .input) c ≡ laid c (exec g (plain (plainWith bs a n p)) (view c))
+  unfolding indexOf opOf familyOf tapeOf deviceOf m.pick exec act
+  plain-op (comment t) e w = next-is g c h
+  plain-op (store k) e w = rw e (store-is g c h n (omega arith))
+  plain-op (move v) e w = move-is g c h (u64At bs a)
+  plain-op (swap k) e w = rw e (swap-is g c h n (omega arith))
+  plain-op locate e w = where-is g c h w
+  plain-op (offset v k) e w = rw e (offset-is g c h (u64At bs a) n (omega arith))
+  plain-op deref e w = deref-is g c h
+  plain-op refer e w = refer-is g c h
+  plain-op (cell o k) e w = rw (cell-row {n = k} o .family, cell-row {n = k} o .rule, e) (cell-is g c h o n (omega arith))
+  plain-op (lane o k) e w = rw (lane-row {n = k} o .family, lane-row {n = k} o .rule, e) (alone-is g c h o n (omega arith))
+  plain-op (get d) e w = get-is g c h (modeIn (u16At bs a)) w
+  plain-op (put d) e w = put-is g c h (modeIn (u16At bs a)) room w
+  plain-op peek e w = peek-is g c h w
+  plain-op poke e w = poke-is g c h w
+  plain-op alloc e w = alloc-is g c h w
+  plain-op free e w = next-is g c h
+
+  op-by : (o : Op) → opAt (g .ops) (c .place .position) ≡ opWith bs a n o → opCount (opWith bs a n o) ≡ n → needs (opWith bs a n o) ≤ c .place .lanes
+      → opOf (indexOf (kindOf o)) n a ks bs (g .input) c ≡ laid c (exec g (opWith bs a n o) (view c))
+  unfolding indexOf opOf familyOf tapeOf m.pick exec
+  op-by (control x) q e w = control-op x q w
+  op-by (set ints vs) q e w = set-is g c h ints n a bs small
+  op-by (set floats vs) q e w = set-is g c h floats n a bs small
+  op-by (load k) q e w = rw e (load-is g c h n small)
+  op-by (plain p) q e w = plain-op p e w
+
+-- ---- a step
+
+neither : {a b : Bool} → a ≡ false → b ≡ false → (a || b) ≡ false
+neither e f = rw (e, f) refl
+
+module _ (s input : List ℕ) (c : Held) (h : Fits s input c) (here : c .place .position < length (codeOf s .kinds)) where
+  -- the op at the position
+  here-is : (k n a : ℕ) → k ≡ itemOf s (c .place .position) .kind → n ≡ itemOf s (c .place .position) .count → a ≡ itemOf s (c .place .position) .place
+      → needs (file.opAt s (itemOf s (c .place .position))) ≤ c .place .lanes
+      → opOf k n a (codeOf s .kinds) s input c ≡ laid c (exec (givenOf s input (length (c .output))) (file.opAt s (itemOf s (c .place .position))) (view c))
+  unfolding givenOf file.opAt
+  here-is k n a ek en ea w =
+      let i = c .place .position in let x = itemOf s i in let room = length (c .output) in
+      let q = is-item s i here in
+      rw (ek, en, ea)
+      (ap (λ (z : ℕ). opOf z (x .count) (x .place) (codeOf s .kinds) s input c) (sym (row-of s x q .number))
+      ∙ op-by (givenOf s input room) (codeOf s .kinds) s (x .count) (x .place) c (h .counted) (rows s input room) (h .formed) (few-entered s input room) refl here
+      (omega (arith, few s i here, count-is s i))
+      (rowAt (x .kind)) (op-is-item s input room i here) (means s x q .count) w)
+
+  step-by : (c .place .halted || leb (length (givenOf s input (length (c .output)) .ops)) (c .place .position)) ≡ false
+      → stepOf (codeOf s) input c ≡ laid c (step (givenOf s input (length (c .output))) (view c))
+  unfolding stepOf m.pick step op pick bar
+  step-by t =
+      let i = c .place .position in let room = length (c .output) in let need = getD (codeOf s .needs) i 0 in
+      rw (t, op-is-item s input room i here, ← need-is s i here, length-take-le (c .place .lanes) (c .register) (h .counted .lanes), bytes-are s)
+      (byCase (ltb (c .place .lanes) need)
+      (λ q. rw q refl)
+      (λ q. rw q (here-is (getD (codeOf s .kinds) i 0) (getD (codeOf s .counts) i 0) (getD (codeOf s .places) i 0) (kind-is s i) (count-is s i) (place-is s i) (omega (arith, ltb-false (c .place .lanes) need q, need-is s i here)))))
+
+  -- "Calling a step hands back the next machine": where it is not halted and has an op
+  pub step-is : c .place .halted ≡ false → stepOf (codeOf s) input c ≡ laid c (step (givenOf s input (length (c .output))) (view c))
+  step-is e =
+      let ops = givenOf s input (length (c .output)) .ops in
+      step-by (neither e (lt-leb (length ops) (c .place .position) (omega (arith, rows s input (length (c .output)) .many))))
