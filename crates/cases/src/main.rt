@@ -4,7 +4,6 @@
 // A case is a head of 16 bytes, then its name, its patch and its input values. The head: what is done (0: a run), the name's length, and by two
 // bytes each the patch's length, the number of input values, of cells and of outputs that there is room for, and of lanes that the register has
 // room for; the budget by four.
-ghost use Prim.Native.Nat.{_≤_};
 use machine::machine::Machine;
 use machine::machine::number_of;
 use machine::machine::place_of;
@@ -12,19 +11,11 @@ use ops::bytes::u16_at;
 use ops::bytes::u32_at;
 use ops::bytes::u64_at;
 use ops::bytes::wide;
-use printing::end_line;
-use printing::lane;
-use printing::lanes;
-use printing::number;
-
-fn least(n: usize, most: usize) -> usize
-    ensures { λ r. ⌜ r ≤ most ⌝ }
-{
-    if most < n {
-        return most;
-    }
-    n
-}
+use streams::part::of_bytes;
+use streams::part::of_lanes;
+use streams::print::end_line;
+use streams::print::lanes;
+use streams::print::number;
 
 fn read_value() -> u64 {
     let mut bytes = [0u8; 8];
@@ -32,30 +23,51 @@ fn read_value() -> u64 {
     u64_at(&bytes, 0)
 }
 
-fn read_values(values: &mut [u64]) {
+// Reads n values, or as many as there is room for.
+fn read_values(values: &mut [u64], n: usize) {
     let mut i: usize = 0;
-    while i < values.len() {
+    while i < n {
+        if values.len() <= i {
+            return;
+        }
         values[i] = read_value();
         i += 1;
     }
 }
 
-// Reads the first n bytes, or as many as there is room for, and prints them.
-fn echo(n: usize) {
+// Reads the bytes and prints them.
+fn echo(text: &mut [u8]) {
+    io::read_full(0, text);
+    io::write_all(1, text);
+}
+
+fn show_name(n: usize) {
     let mut text = [0u8; 255];
-    let to = least(n, 255);
-    io::read_full(0, &mut text[..to]);
-    io::write_all(1, &text[..to]);
+    let k = of_bytes(n, &text);
+    echo(&mut text[..k]);
+    io::write_all(1, b":");
 }
 
 // Lane 0 of a register of n lanes.
-fn show_lane(register: &[u64], n: usize) {
+fn show_lane(register: &[u64; 1024], n: usize) {
     io::write_all(1, b" lane");
-    if n == 0 || register.len() == 0 {
+    if n == 0 {
         io::write_all(1, b" none");
-        return;
+    } else {
+        lanes(register, 0, 1);
     }
-    lane(register[0]);
+}
+
+// The input values from place to place.
+fn show_left(input: &[u64; 16], from: usize, to: usize) {
+    io::write_all(1, b" left");
+    lanes(input, from, to);
+}
+
+// The first n outputs.
+fn show_out(output: &[u64; 64], n: usize) {
+    io::write_all(1, b" out");
+    lanes(output, 0, n);
 }
 
 fn show_check(file: &[u8]) {
@@ -65,55 +77,52 @@ fn show_check(file: &[u8]) {
     number(patch_check::verdict::place_of(v));
 }
 
-fn show_run(file: &[u8], register: &mut [u64], tape: &mut [u64], input: &[u64], output: &mut [u64], budget: u32) {
+// Reads the input values, and runs the patch with the storage that is lent.
+fn show_run(head: &[u8; 16], file: &[u8]) {
+    let mut register = [0u64; 1024];
+    let mut tape = [0u64; 4096];
     let mut table = [0u16; 256];
     let mut channel = [0u64; 256];
+    let mut input = [0u64; 16];
+    let mut output = [0u64; 64];
+    let given = u16_at(head, 4);
+    read_values(&mut input, given);
+    let lent = of_lanes(u16_at(head, 10), &register);
+    let cells = of_lanes(u16_at(head, 6), &tape);
+    let inputs = of_lanes(given, &input);
+    let room = of_lanes(u16_at(head, 8), &output);
+    let budget = u32_at(head, 12);
     let r = Machine::run_fresh(
         file,
-        register,
-        tape,
+        &mut register[..lent],
+        &mut tape[..cells],
         &mut table,
         &mut channel,
-        input,
-        output,
-        budget,
+        &input[..inputs],
+        &mut output[..room],
+        budget as u32,
     );
+    let answer = r.answer;
     let place = r.machine.place;
     io::write_all(1, b" run");
-    number(number_of(r.answer));
+    number(number_of(answer));
     number(r.steps as usize);
-    number(place_of(r.answer, place.position));
-    show_lane(register, place.lanes);
+    number(place_of(answer, place.position));
+    show_lane(&register, place.lanes);
     io::write_all(1, b" pointer");
     number(place.pointer);
     io::write_all(1, b" length");
     number(place.length);
-    io::write_all(1, b" left");
-    lanes(input, place.taken, input.len());
-    io::write_all(1, b" out");
-    lanes(output, 0, place.written);
+    show_left(&input, place.taken, inputs);
+    show_out(&output, place.written);
 }
 
-fn run(head: &[u8; 16], file: &[u8]) {
-    let mut register = [0u64; 1024];
-    let mut tape = [0u64; 4096];
-    let mut input = [0u64; 16];
-    let mut output = [0u64; 64];
-    let inputs = least(u16_at(head, 4), 16);
-    let cells = least(u16_at(head, 6), 4096);
-    let room = least(u16_at(head, 8), 64);
-    let lent = least(u16_at(head, 10), 1024);
-    let budget = u32_at(head, 12) as u32;
-    read_values(&mut input[..inputs]);
+// Reads the patch, and works it.
+fn work(head: &[u8; 16], file: &mut [u8]) {
+    io::read_full(0, file);
     show_check(file);
-    show_run(
-        file,
-        &mut register[..lent],
-        &mut tape[..cells],
-        &input[..inputs],
-        &mut output[..room],
-        budget,
-    );
+    show_run(head, file);
+    end_line();
 }
 
 // One case, and whether there was one.
@@ -122,13 +131,10 @@ fn case() -> bool {
     if io::read_full(0, &mut head) < 16 {
         return false;
     }
-    echo(wide(head[1]));
-    io::write_all(1, b":");
+    show_name(wide(head[1]));
     let mut file = [0u8; 65536];
-    let n = u16_at(&head, 2);
-    io::read_full(0, &mut file[..n]);
-    run(&head, &file[..n]);
-    end_line();
+    let n = of_bytes(u16_at(&head, 2), &file);
+    work(&head, &mut file[..n]);
     true
 }
 

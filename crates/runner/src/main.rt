@@ -4,9 +4,9 @@
 use machine::machine::Machine;
 use machine::machine::number_of;
 use machine::machine::place_of;
-use printing::end_line;
-use printing::lanes;
-use printing::number;
+use streams::print::end_line;
+use streams::print::lanes;
+use streams::print::number;
 
 // A word, and a number and a place after it.
 fn show_answer(word: &[u8], n: usize, place: usize) {
@@ -33,11 +33,12 @@ fn run(file: &[u8]) {
         &mut output,
         100000,
     );
+    let answer = r.answer;
     let place = r.machine.place;
     io::write_all(1, b"run");
-    number(number_of(r.answer));
+    number(number_of(answer));
     number(r.steps as usize);
-    number(place_of(r.answer, place.position));
+    number(place_of(answer, place.position));
     end_line();
     io::write_all(1, b"out");
     lanes(&output, 0, place.written);

@@ -1,8 +1,8 @@
--- `printing::lanes` is safe and ends: the measure is the values that are left. Assumes nothing.
+-- `streams::print::lanes` is safe and ends: the measure is the values that are left. Assumes nothing.
 use borrow.Author.Needs.{needs}
 use Prim.Native.Nat.{_-_, _≤_}
-use Rattle.printing.proofs.lanes.Statement.{statement}
-use Rattle.printing.proofs.lanes.Tie as tie
+use Rattle.streams.proofs.print.lanes.Statement.{statement}
+use Rattle.streams.proofs.print.lanes.Tie as tie
 
 abbrev Inv-loop : tie.InvT-loop
 Inv-loop values from to i₀ i = from ≤ i
