@@ -38,46 +38,54 @@ pub fn value(case: &[u8], at: usize) -> u64 {
     u64_at(case, at)
 }
 
-// A count, then so many values: lays them down, and answers the place after them.
-pub fn inputs(case: &[u8], at: usize, values: &mut [u64]) -> usize {
-    let n = word(case, at);
-    let mut i = after(case, at, 4);
-    if values.len() < n {
-        return BEYOND;
+// Sets an element that is there.
+fn put(values: &mut [u64], i: usize, v: u64) {
+    if i < values.len() {
+        values[i] = v;
     }
-    let mut k: usize = 0;
-    while k < n {
-        values[k] = value(case, i);
-        i = after(case, i, 8);
-        k += 1;
-    }
-    i
 }
 
-// The contents of a slice, those of its entries that are not zero: lays them down, and answers the place after them.
-pub fn contents(case: &[u8], at: usize, values: &mut [u64]) -> usize {
+// A count, then so many values: lays them down.
+pub fn inputs(case: &[u8], at: usize, values: &mut [u64]) {
     let n = word(case, at);
-    let mut i = after(case, at, 4);
-    let mut k: usize = 0;
-    while k < n {
-        let index = word(case, i);
-        if values.len() <= index {
-            return BEYOND;
-        }
-        values[index] = value(case, after(case, i, 4));
-        i = after(case, i, 12);
-        if i == BEYOND {
-            return BEYOND;
-        }
-        k += 1;
+    let mut from = after(case, at, 4);
+    let mut i: usize = 0;
+    while i < n {
+        put(values, i, value(case, from));
+        from = after(case, from, 8);
+        i += 1;
     }
-    i
 }
 
-// A slice, its length and its contents: lays them down, and answers the place after them.
-pub fn lent(case: &[u8], at: usize, values: &mut [u64]) -> usize {
-    if values.len() < word(case, at) {
+// The place after them; there are at most 256.
+pub fn after_inputs(case: &[u8], at: usize) -> usize {
+    let n = word(case, at);
+    if 256 < n {
         return BEYOND;
     }
-    contents(case, after(case, at, 4), values)
+    after(case, after(case, at, 4), 8 * n)
+}
+
+// The contents of a slice, those of its entries that are not zero: lays them down.
+pub fn contents(case: &[u8], at: usize, values: &mut [u64]) {
+    let n = word(case, at);
+    let mut from = after(case, at, 4);
+    let mut i: usize = 0;
+    while i < n {
+        put(values, word(case, from), value(case, after(case, from, 4)));
+        from = after(case, from, 12);
+        i += 1;
+    }
+}
+
+pub fn after_contents(case: &[u8], at: usize) -> usize {
+    after(case, after(case, at, 4), 12 * word(case, at))
+}
+
+// The place after a slice, its length and its contents, where it has at most so many elements.
+pub fn after_slice(case: &[u8], at: usize, most: usize) -> usize {
+    if most < word(case, at) {
+        return BEYOND;
+    }
+    after_contents(case, after(case, at, 4))
 }

@@ -4,6 +4,7 @@ mod list; // the bytes of a case
 mod tell; // what is said of a difference
 mod found; // what is found of a case
 mod state; // a machine
+mod slices; // what is expected of lent storage
 mod run; // runs, fresh and from a state
 use crate::found::Found;
 use crate::found::agreeing;
@@ -48,6 +49,13 @@ fn work(tell: Tell, sort: u8, file: &mut [u8], case: &mut [u8]) -> Found {
     Found::Damaged
 }
 
+// A case of this sort, with so many bytes of a patch and so many after them.
+fn take(tell: Tell, sort: u8, bytes: usize, after: usize, file: &mut [u8], case: &mut [u8]) -> Found {
+    let n = of_bytes(bytes, file);
+    let m = of_bytes(after, case);
+    work(tell, sort, &mut file[..n], &mut case[..m])
+}
+
 // The next case: its length, its sort and the length of its patch come first.
 fn next(tell: Tell, file: &mut [u8; 65537], case: &mut [u8; 327680]) -> Found {
     let mut head = [0u8; 9];
@@ -55,18 +63,22 @@ fn next(tell: Tell, file: &mut [u8; 65537], case: &mut [u8; 327680]) -> Found {
     if k == 0 {
         return Found::End;
     }
+    if k < 9 {
+        return Found::Damaged;
+    }
     let size = u32_at(&head, 0);
     let bytes = u32_at(&head, 5);
-    if k < 9 || 65537 < bytes || size < 5 + bytes {
+    if size < bytes + 5 {
         return Found::Damaged;
     }
-    let left = size - 5 - bytes;
-    if 327680 < left {
+    let after = size - (bytes + 5);
+    if 65537 < bytes {
         return Found::Damaged;
     }
-    let n = of_bytes(bytes, file);
-    let m = of_bytes(left, case);
-    work(tell, head[4], &mut file[..n], &mut case[..m])
+    if 327680 < after {
+        return Found::Damaged;
+    }
+    take(tell, head[4], bytes, after, file, case)
 }
 
 fn show(cases: u32, agree: u32) {
@@ -85,14 +97,11 @@ fn main() {
     let mut n: u32 = 0;
     let mut agree: u32 = 0;
     while n < 1000000000 {
-        let found = next(
-            Tell {
-                case: n,
-                loud: n - agree < 10,
-            },
-            &mut file,
-            &mut case,
-        );
+        let tell = Tell {
+            case: n,
+            loud: n - agree < 10,
+        };
+        let found = next(tell, &mut file, &mut case);
         if !is_case(found) {
             show_damage(found, n);
             show(n, agree);

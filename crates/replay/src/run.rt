@@ -1,10 +1,14 @@
-// A case that is a run, from a state or fresh.
+// A case that is a run, from a state or fresh. Its storage is laid out slice by slice, each in a function of its own that lends as much of it
+// as the case says.
 use crate::found::Found;
 use crate::list::after;
+use crate::list::after_contents;
+use crate::list::after_inputs;
+use crate::list::after_slice;
 use crate::list::contents;
 use crate::list::inputs;
-use crate::list::lent;
 use crate::list::word;
+use crate::slices::same_slices;
 use crate::state::after_machine;
 use crate::state::machine_at;
 use crate::state::same_machine;
@@ -16,42 +20,35 @@ use machine::machine::place_of;
 use streams::part::of_lanes;
 use streams::part::of_places;
 
-// The table of functions as it is lent, and back.
-fn narrow(from: &[u64; 258], to: &mut [u16; 258]) {
-    let mut i: usize = 0;
-    while i < 258 {
-        to[i] = (from[i] % 65536) as u16;
-        i += 1;
+// A run from a state has its machine before its answer.
+fn at_answer(case: &[u8], sort: u8, at: usize) -> usize {
+    if sort == 0 {
+        return after_machine(case, at);
     }
+    at
 }
 
-fn widen(from: &[u16; 258], to: &mut [u64; 258]) {
-    let mut i: usize = 0;
-    while i < 258 {
-        to[i] = from[i] as u64;
-        i += 1;
-    }
+// The place after what is expected, whose answer is at a place.
+fn after_expected(case: &[u8], at: usize) -> usize {
+    let tape = after_machine(case, after(case, at, 12));
+    let register = after_contents(case, tape);
+    let table = after_contents(case, register);
+    let channel = after_contents(case, table);
+    let output = after_contents(case, channel);
+    after_contents(case, output)
 }
 
-fn same_cells(tell: Tell, what: &[u8], expected: &[u64; 4096], came: &[u64; 4096]) -> bool {
-    tell.same_lanes(what, expected, came)
+// The place after the whole case, with storage that this program has room for.
+fn after_case(case: &[u8], sort: u8) -> usize {
+    let tape = after_inputs(case, 4);
+    let register = after_slice(case, tape, 4096);
+    let table = after_slice(case, register, 1026);
+    let channel = after_slice(case, table, 258);
+    let output = after_slice(case, channel, 258);
+    let state = after_slice(case, output, 4096);
+    after_expected(case, at_answer(case, sort, state))
 }
 
-fn same_register(tell: Tell, expected: &[u64; 1026], came: &[u64; 1026]) -> bool {
-    tell.same_lanes(b"lane", expected, came)
-}
-
-fn same_places(tell: Tell, what: &[u8], expected: &[u64; 258], came: &[u64; 258]) -> bool {
-    tell.same_lanes(what, expected, came)
-}
-
-fn same_table(tell: Tell, expected: &[u64; 258], came: &[u16; 258]) -> bool {
-    let mut wide = [0u64; 258];
-    widen(came, &mut wide);
-    same_places(tell, b"table entry", expected, &wide)
-}
-
-// The numbers of an answer, and the machine after them.
 fn same_answer(tell: Tell, case: &[u8], at: usize, r: Ran) -> bool {
     let answer = r.answer;
     let m = r.machine;
@@ -62,12 +59,26 @@ fn same_answer(tell: Tell, case: &[u8], at: usize, r: Ran) -> bool {
         && same_machine(tell, case, after(case, at, 12), m)
 }
 
-// A run from a state has its machine before its answer.
-fn at_answer(case: &[u8], sort: u8, at: usize) -> usize {
-    if sort == 0 {
-        return after_machine(case, at);
+// Whether all is as expected, the answer being at a place.
+fn judge(
+    tell: Tell,
+    case: &[u8],
+    at: usize,
+    r: Ran,
+    tape: &[u64],
+    register: &[u64],
+    table: &[u16],
+    channel: &[u64],
+    output: &[u64],
+) -> Found {
+    let state = after(case, at, 12);
+    if !same_answer(tell, case, at, r) {
+        return Found::Differs;
     }
-    at
+    if !same_slices(tell, case, after_machine(case, state), tape, register, table, channel, output) {
+        return Found::Differs;
+    }
+    Found::Agrees
 }
 
 fn start(
@@ -75,11 +86,11 @@ fn start(
     case: &[u8],
     at: usize,
     file: &[u8],
-    register: &mut [u64],
+    input: &[u64],
     tape: &mut [u64],
+    register: &mut [u64],
     table: &mut [u16],
     channel: &mut [u64],
-    input: &[u64],
     output: &mut [u64],
 ) -> Ran {
     let budget = word(case, 0) as u32;
@@ -90,71 +101,115 @@ fn start(
     Machine::run_fresh(file, register, tape, table, channel, input, output, budget)
 }
 
-pub fn replay(tell: Tell, sort: u8, file: &[u8], case: &[u8]) -> Found {
-    let mut input = [0u64; 256];
-    let mut tape = [0u64; 4096];
-    let mut register = [0u64; 1026];
-    let mut entries = [0u64; 258];
-    let mut channel = [0u64; 258];
+fn with_output(
+    tell: Tell,
+    sort: u8,
+    file: &[u8],
+    case: &[u8],
+    at: usize,
+    input: &[u64],
+    tape: &mut [u64],
+    register: &mut [u64],
+    table: &mut [u16],
+    channel: &mut [u64],
+    output: &mut [u64],
+) -> Found {
+    let r = start(sort, case, at, file, input, tape, register, table, channel, output);
+    judge(tell, case, at_answer(case, sort, at), r, tape, register, table, channel, output)
+}
+
+fn with_channel(
+    tell: Tell,
+    sort: u8,
+    file: &[u8],
+    case: &[u8],
+    at: usize,
+    input: &[u64],
+    tape: &mut [u64],
+    register: &mut [u64],
+    table: &mut [u16],
+    channel: &mut [u64],
+) -> Found {
+    let state = after_slice(case, at, 4096);
     let mut output = [0u64; 4096];
-    let at_tape = inputs(case, 4, &mut input);
-    let at_register = lent(case, at_tape, &mut tape);
-    let at_table = lent(case, at_register, &mut register);
-    let at_channel = lent(case, at_table, &mut entries);
-    let at_output = lent(case, at_channel, &mut channel);
-    let at_machine = lent(case, at_output, &mut output);
-    let at = at_answer(case, sort, at_machine);
-    let mut tape_after = [0u64; 4096];
-    let mut register_after = [0u64; 1026];
-    let mut table_after = [0u64; 258];
-    let mut channel_after = [0u64; 258];
-    let mut output_after = [0u64; 4096];
-    let mut end = after_machine(case, after(case, at, 12));
-    end = contents(case, end, &mut tape_after);
-    end = contents(case, end, &mut register_after);
-    end = contents(case, end, &mut table_after);
-    end = contents(case, end, &mut channel_after);
-    end = contents(case, end, &mut output_after);
-    if end != case.len() {
-        return Found::Damaged;
+    contents(case, after(case, at, 4), &mut output);
+    let n = of_lanes(word(case, at), &output);
+    with_output(tell, sort, file, case, state, input, tape, register, table, channel, &mut output[..n])
+}
+
+fn with_table(
+    tell: Tell,
+    sort: u8,
+    file: &[u8],
+    case: &[u8],
+    at: usize,
+    input: &[u64],
+    tape: &mut [u64],
+    register: &mut [u64],
+    table: &mut [u16],
+) -> Found {
+    let next = after_slice(case, at, 258);
+    let mut channel = [0u64; 258];
+    contents(case, after(case, at, 4), &mut channel);
+    let n = of_lanes(word(case, at), &channel);
+    with_channel(tell, sort, file, case, next, input, tape, register, table, &mut channel[..n])
+}
+
+// The table of functions as it is lent.
+fn narrow(from: &[u64; 258], to: &mut [u16; 258]) {
+    let mut i: usize = 0;
+    while i < 258 {
+        to[i] = (from[i] % 65536) as u16;
+        i += 1;
     }
+}
+
+fn with_register(
+    tell: Tell,
+    sort: u8,
+    file: &[u8],
+    case: &[u8],
+    at: usize,
+    input: &[u64],
+    tape: &mut [u64],
+    register: &mut [u64],
+) -> Found {
+    let next = after_slice(case, at, 258);
+    let mut entries = [0u64; 258];
+    contents(case, after(case, at, 4), &mut entries);
     let mut table = [0u16; 258];
     narrow(&entries, &mut table);
-    let given = of_lanes(word(case, 4), &input);
-    let cells = of_lanes(word(case, at_tape), &tape);
-    let lanes = of_lanes(word(case, at_register), &register);
-    let marks = of_places(word(case, at_table), &table);
-    let ring = of_lanes(word(case, at_channel), &channel);
-    let room = of_lanes(word(case, at_output), &output);
-    let r = start(
-        sort,
-        case,
-        at_machine,
-        file,
-        &mut register[..lanes],
-        &mut tape[..cells],
-        &mut table[..marks],
-        &mut channel[..ring],
-        &input[..given],
-        &mut output[..room],
-    );
-    if !same_answer(tell, case, at, r) {
-        return Found::Differs;
+    let n = of_places(word(case, at), &table);
+    with_table(tell, sort, file, case, next, input, tape, register, &mut table[..n])
+}
+
+fn with_tape(tell: Tell, sort: u8, file: &[u8], case: &[u8], at: usize, input: &[u64], tape: &mut [u64]) -> Found {
+    let next = after_slice(case, at, 1026);
+    let mut register = [0u64; 1026];
+    contents(case, after(case, at, 4), &mut register);
+    let n = of_lanes(word(case, at), &register);
+    with_register(tell, sort, file, case, next, input, tape, &mut register[..n])
+}
+
+fn with_input(tell: Tell, sort: u8, file: &[u8], case: &[u8], at: usize, input: &[u64]) -> Found {
+    let next = after_slice(case, at, 4096);
+    let mut tape = [0u64; 4096];
+    contents(case, after(case, at, 4), &mut tape);
+    let n = of_lanes(word(case, at), &tape);
+    with_tape(tell, sort, file, case, next, input, &mut tape[..n])
+}
+
+fn laid_out(tell: Tell, sort: u8, file: &[u8], case: &[u8]) -> Found {
+    let next = after_inputs(case, 4);
+    let mut input = [0u64; 256];
+    inputs(case, 4, &mut input);
+    let n = of_lanes(word(case, 4), &input);
+    with_input(tell, sort, file, case, next, &input[..n])
+}
+
+pub fn replay(tell: Tell, sort: u8, file: &[u8], case: &[u8]) -> Found {
+    if after_case(case, sort) != case.len() {
+        return Found::Damaged;
     }
-    if !same_cells(tell, b"cell", &tape_after, &tape) {
-        return Found::Differs;
-    }
-    if !same_register(tell, &register_after, &register) {
-        return Found::Differs;
-    }
-    if !same_table(tell, &table_after, &table) {
-        return Found::Differs;
-    }
-    if !same_places(tell, b"channel place", &channel_after, &channel) {
-        return Found::Differs;
-    }
-    if !same_cells(tell, b"output", &output_after, &output) {
-        return Found::Differs;
-    }
-    Found::Agrees
+    laid_out(tell, sort, file, case)
 }

@@ -97,6 +97,14 @@ fn same_place(tell: Tell, e: Place, m: Place) -> bool {
         && tell.same(b"pointers saved", e.saved, m.saved)
 }
 
+fn call(x: u16) -> usize {
+    x as usize
+}
+
+fn pointer(x: u32) -> usize {
+    x as usize
+}
+
 // The first n entries of the stacks.
 fn same_calls(tell: Tell, e: &[u16; 256], m: &[u16; 256], n: usize) -> bool {
     let mut i: usize = 0;
@@ -104,7 +112,7 @@ fn same_calls(tell: Tell, e: &[u16; 256], m: &[u16; 256], n: usize) -> bool {
         if 256 <= i {
             return true;
         }
-        if !tell.same(b"a saved call", e[i] as usize, m[i] as usize) {
+        if !tell.same(b"a saved call", call(e[i]), call(m[i])) {
             return false;
         }
         i += 1;
@@ -118,7 +126,7 @@ fn same_refs(tell: Tell, e: &[u32; 256], m: &[u32; 256], n: usize) -> bool {
         if 256 <= i {
             return true;
         }
-        if !tell.same(b"a saved pointer", e[i] as usize, m[i] as usize) {
+        if !tell.same(b"a saved pointer", pointer(e[i]), pointer(m[i])) {
             return false;
         }
         i += 1;
