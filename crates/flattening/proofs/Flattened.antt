@@ -1,8 +1,7 @@
 -- Flattening loses nothing: whatever is counted of the ops, the flattened patch has as many. Assumes nothing.
-use Prim.Native.Nat.{ℕ, zero, suc, _+_, _-_, _≤_, _<_}
-use native.Mathlib.Nat.{not-suc-le-zero}
+use Prim.Native.Nat.{ℕ, zero, suc, _+_, _<_}
 use native.Mathlib.Omega.{arith}
-use borrow.Author.Tests.{eqb-true, eqb-false, ltb-true, ltb-false, eq-eqb, ne-eqb}
+use borrow.Author.Tests.{eqb-true, eqb-false, eq-eqb, ne-eqb}
 use mathlib.Core.Path.{_≡_, refl, ap, sym, _∙_, subst}
 use mathlib.Core.Bool.{Bool, true, false, cond, _||_}
 use mathlib.Core.List.{List, [], _∷_, _++_}
@@ -11,10 +10,10 @@ use lib.ListN.{length}
 use Rattle.ops.specs.Op.{Op}
 use Rattle.machine_model.specs.Step.{enter}
 use Rattle.machine_model.specs.Formed.{Each, Rising}
-use Rattle.flattening.specs.Flatten.{Note, notes, Numbered, named, has, fresh, number, body, gathered, others, laid, flatten, Flat, Body}
+use Rattle.flattening.specs.Flatten.{Note, notes, Numbered, named, has, fresh, number, body, gathered, others, laid, flatten, Body}
 use Rattle.flattening.specs.Flatten.Note.{enters, opens, closes, stays}
 use Rattle.flattening.specs.Flatten.Numbered.{stray, numbered}
-use Rattle.flattening.specs.Flatten.Flat.{loose, flat}
+use Rattle.flattening.specs.Flatten.Flat.{flat}
 use Rattle.machine_model.proofs.Scans.{clash}
 use Rattle.machine_model.proofs.Table.{rising-enter}
 

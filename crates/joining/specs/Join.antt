@@ -21,7 +21,7 @@ pub data Rule : Type 0 where
 
 -- the last op is of kind a, the new one of kind b
 abbrev pub both : ℕ → ℕ → Op → Op → Bool
-both a b last new = eqb (kindOf last) a && eqb (kindOf new) b
+both a b last new = eqb (kindOf new) b && eqb (kindOf last) a
 
 -- the same, with the same count
 abbrev pub alike : ℕ → ℕ → Op → Op → Bool

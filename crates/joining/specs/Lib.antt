@@ -1,1 +1,3 @@
 pub mod Join
+pub mod Stack
+pub mod Joined

@@ -1,10 +1,8 @@
 -- The thirteen cases of 01-scope.md ('Proved by one table'), computed from the definitions of run, check, joining and flattening and compared
 -- as one list. Assumes nothing.
-use Prim.Native.Nat.{ℕ, _+_, _-_, _^_}
+use Prim.Native.Nat.{ℕ, _-_, _^_}
 use mathlib.Core.Path.{_≡_, refl}
-use mathlib.Core.Bool.{Bool, true, false, cond}
 use mathlib.Core.List.{List, [], _∷_, _++_, map}
-use lib.ListN.{length, getD}
 use Rattle.lanes.specs.declared.lane.CellOp.the-variants.{Div, Rem, LeftShift, Add}
 use Rattle.lanes.specs.declared.lane.LaneOp.the-variants.{ToFloat, ToInt}
 use Rattle.ops.specs.declared.op.Mode.the-variants.{Char, Int}

@@ -1,0 +1,20 @@
+-- `joining::stack::put` meets its contract. Assumes nothing.
+use borrow.Author.Needs.{needs}
+use native.Mathlib.Numerals.{add-one}
+use mathlib.Core.Path.{refl}
+use Rattle.joining.proofs.Stacks.{stack-put}
+use Rattle.joining.proofs.stack.put.Statement.{statement}
+use Rattle.joining.proofs.stack.put.Tie as tie
+
+pub put-spec : {M : Type 1} → statement M
+put-spec =
+    tie.close
+    (tie.spec
+    (λ c. search needs)
+    (λ c. search needs)
+    (λ c. search needs)
+    (λ c. search needs)
+    (λ c. search needs)
+    (λ c. search needs)
+    (λ c. search needs)
+    (λ c. (refl, rw add-one (stack-put _ _ _ _ _ (c .pre .0) (c .pre .1)))))

@@ -1,0 +1,21 @@
+-- `joining::write::put_u64` meets its contract. Assumes nothing.
+use Prim.Native.Nat.{_+_, _≤_}
+use mathlib.Core.Path.{refl, _∙_}
+use native.Mathlib.Omega.{arith}
+use lib.ListN.{length}
+use Rattle.ops.specs.Write.{le16, le32, le64}
+use Rattle.ops.proofs.Storage.{placed-then}
+use borrow.Author.Needs.{needs}
+use Rattle.joining.proofs.write.put_u64.Statement.{statement}
+use Rattle.joining.proofs.write.put_u64.Tie as tie
+
+returns : tie.Need-returns
+unfolding le64 le32 le16
+returns c =
+    let a = c .before .before .before .before .before .before .before .before .before .args in
+    let h : a .at + 4 ≤ length (a .out .now) = omega arith in
+    c .before .before .put-u322 .ensures ∙ rw (c .before .before .before .before .before .before .put-u32 .ensures) (placed-then (a .out .now) (a .at) _ _ (a .at + 4) refl h)
+
+pub put-u64-spec : {M : Type 1} → statement M
+put-u64-spec =
+    tie.close (tie.spec (λ c κs. search needs) (λ c. search needs) (λ c κs. search needs) (λ c. search needs) returns)

@@ -1,0 +1,203 @@
+// The push of an op on the ops before it. An entry of the stack is an op of the file, by its place among them, and the value that it has by now
+// if it is a Move or a Set of one value: two lent slices hold them, the last one on top.
+ghost use mathlib.Core.Path.{_≡_};
+ghost use mathlib.Core.List.{_∷_};
+ghost use Prim.Native.Nat.{ℕ, _+_, _<_, _≤_};
+ghost use lib.ListN.{length, getD};
+ghost use Rattle.joining.specs.Stack.{cells, tests, meet, entry, stack, movedOn, pushOn};
+use lanes::int::int_add;
+use lanes::int::int_gez;
+
+// What the last op and the new one make of each other: the new one is pushed, or left out; the last one is taken off, and the new one
+// is pushed again, a set of this value is, or the last one is after the new one; or a move by this value stands for both.
+pub enum Met {
+    Push,
+    Skip,
+    Pop,
+    Again,
+    Test(u64),
+    Under,
+    Sum(u64),
+}
+
+// Store and Load after a cell op of the same count.
+pub fn cell(yk: u8, yn: u16, xn: u16) -> Met
+    ensures { λ r. ⌜ r ≡ cells yk yn xn ⌝ }
+{
+    if yn != xn {
+        return Met::Push;
+    }
+    if yk == 9 {
+        return Met::Skip;
+    }
+    if yk == 10 {
+        return Met::Skip;
+    }
+    Met::Push
+}
+
+// IsNonNegative after a Set of one value.
+pub fn test(yk: u8, yn: u16, yv: u64, xn: u16) -> Met
+    ensures { λ r. ⌜ r ≡ tests yk yn yv xn ⌝ }
+{
+    if xn != 1 {
+        return Met::Push;
+    }
+    if yk != 1 {
+        return Met::Push;
+    }
+    if yn != 1 {
+        return Met::Push;
+    }
+    let v = int_gez(yv);
+    Met::Test(v)
+}
+
+// By kind, count and value of the last op and of the new one.
+pub fn meets(yk: u8, yn: u16, yv: u64, xk: u8, xn: u16, xv: u64) -> Met
+    ensures { λ r. ⌜ r ≡ meet yk yn yv xk xn xv ⌝ }
+{
+    if xk == 11 {
+        if yk != 11 {
+            return Met::Push;
+        }
+        let v = int_add(yv, xv);
+        if v == 0 {
+            return Met::Pop;
+        }
+        return Met::Sum(v);
+    }
+    if xk == 1 {
+        if yk == 1 {
+            return Met::Again;
+        }
+        if yk == 11 {
+            return Met::Under;
+        }
+        return Met::Push;
+    }
+    if xk == 14 {
+        if yk == 13 {
+            return Met::Pop;
+        }
+        if yk == 11 {
+            return Met::Again;
+        }
+        return Met::Push;
+    }
+    if xk == 8 {
+        if yk == 7 {
+            return Met::Again;
+        }
+        return Met::Push;
+    }
+    if xk == 16 {
+        if yk == 11 {
+            return Met::Under;
+        }
+        return Met::Push;
+    }
+    if xk == 9 {
+        return cell(yk, yn, xn);
+    }
+    if xk == 10 {
+        return cell(yk, yn, xn);
+    }
+    if xk == 37 {
+        return test(yk, yn, yv, xn);
+    }
+    Met::Push
+}
+
+// The kind of op i, and its count; 0 beyond the last.
+pub fn kind_of(kinds: &[u8], i: usize) -> u8
+    ensures { λ r. ⌜ r ≡ getD (now (kinds .entry)) i 0 ⌝ }
+{
+    if kinds.len() <= i {
+        return 0;
+    }
+    kinds[i]
+}
+
+pub fn count_of(counts: &[u16], i: usize) -> u16
+    ensures { λ r. ⌜ r ≡ getD (now (counts .entry)) i 0 ⌝ }
+{
+    if counts.len() <= i {
+        return 0;
+    }
+    counts[i]
+}
+
+pub fn put(ops: &mut [usize], values: &mut [u64], n: usize, i: usize, v: u64) -> usize
+    requires { ⌜ (n < length (now ops)) × (n < length (now values)) ⌝ }
+    ensures { λ r. ⌜ (r ≡ n + 1) × (stack (now (ops .exit)) (now (values .exit)) r ≡ entry i v ∷ stack (now (ops .entry)) (now (values .entry)) n) ⌝ }
+{
+    ops[n] = i;
+    values[n] = v;
+    n + 1
+}
+
+// The push of a move.
+pub fn put_move(
+    kinds: &[u8],
+    ops: &mut [usize],
+    values: &mut [u64],
+    n: usize,
+    i: usize,
+    v: u64,
+) -> usize
+    requires { ⌜ (n < length (now ops)) × (n < length (now values)) ⌝ }
+    ensures { λ r. ⌜ (r ≤ n + 1) × (stack (now (ops .exit)) (now (values .exit)) r ≡ movedOn (now (kinds .entry)) (stack (now (ops .entry)) (now (values .entry)) n) (entry i v)) ⌝ }
+{
+    if n == 0 {
+        return put(ops, values, n, i, v);
+    }
+    let top = n - 1;
+    let last = ops[top];
+    let k = kind_of(kinds, last);
+    if k != 11 {
+        return put(ops, values, n, i, v);
+    }
+    let sum = int_add(values[top], v);
+    if sum == 0 {
+        return top;
+    }
+    put(ops, values, top, last, sum)
+}
+
+// The push of op i with the value v on the n entries; how many there are then.
+pub fn push(
+    kinds: &[u8],
+    counts: &[u16],
+    ops: &mut [usize],
+    values: &mut [u64],
+    n: usize,
+    i: usize,
+    v: u64,
+) -> usize
+    requires { ⌜ (n < length (now ops)) × (n < length (now values)) ⌝ }
+    ensures { λ r. ⌜ (r ≤ n + 1) × (stack (now (ops .exit)) (now (values .exit)) r ≡ pushOn (now (kinds .entry)) (now (counts .entry)) (stack (now (ops .entry)) (now (values .entry)) n) (entry i v)) ⌝ }
+{
+    if n == 0 {
+        return put(ops, values, n, i, v);
+    }
+    let top = n - 1;
+    let last = ops[top];
+    let value = values[top];
+    let yk = kind_of(kinds, last);
+    let yn = count_of(counts, last);
+    let xk = kind_of(kinds, i);
+    let xn = count_of(counts, i);
+    match meets(yk, yn, value, xk, xn, v) {
+        Met::Push => put(ops, values, n, i, v),
+        Met::Skip => n,
+        Met::Pop => top,
+        Met::Again => push(kinds, counts, ops, values, top, i, v),
+        Met::Test(w) => push(kinds, counts, ops, values, top, last, w),
+        Met::Under => {
+            let m = push(kinds, counts, ops, values, top, i, v);
+            put_move(kinds, ops, values, m, last, value)
+        }
+        Met::Sum(w) => put(ops, values, top, last, w),
+    }
+}
