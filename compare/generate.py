@@ -1,0 +1,882 @@
+#!/usr/bin/env python3
+"""Makes cases and writes them as a list (docs/REPLAY.md) with the answers that model01.py expects.
+
+    generate.py exhaustive             every patch of up to 3 ops of a small alphabet: run, checked, joined and flattened
+    generate.py random SEED COUNT      random cases of every style; the same seed gives the same cases
+    generate.py boundary               cases around every limit
+    generate.py smallest               the smallest input of each row of docs/DIFFERENCES.md, in its order
+"""
+import itertools
+import random
+import struct
+import sys
+
+import model01
+from lists import CHECK, FLATTEN, FRESH, JOIN, RUN, SLICES, Answer, Case, Machine, record, write
+from model01 import (ALLOC, AND, CALL, CELL_OPS, COMMENT, COUNTED, DEREF, ELSE, END, FREE, FUNCTION, GET, GEZ, IF, LANE_OPS, LOAD,
+                     MOVE, OFFSET, PEEK, POKE, PUT, REFER, RETURN, SET, SETF, STORE, WHERE, WHILE, WORD)
+
+sys.setrecursionlimit(20000)
+EMPTY = [FUNCTION, CALL, RETURN, WHILE, IF, ELSE, END, WHERE, DEREF, REFER, ALLOC, FREE, PEEK, POKE]
+PLAIN = [WHERE, DEREF, REFER, ALLOC, FREE, PEEK, POKE]
+KINDS = sorted(set(range(40)) | set(range(256, 268)) | {275, 276})
+UNBRACKETED = [k for k in KINDS if k not in (FUNCTION, WHILE, IF, ELSE, END, CALL, RETURN)]
+FLOAT_KINDS = list(range(259, 268))
+INTEGERS = [0, 0, 0, 1, 1, 1, 2, 3, 4, 5, 7, 10, 63, 64, 65, 255, 256, 1000, 99_999, 100_000, 1 << 31, 1 << 32, (1 << 32) - 1,
+            (1 << 53) + 1, (1 << 62) + 3, (1 << 63) - 1, 1 << 63, (1 << 63) + 1, WORD, WORD, WORD - 1, WORD - 6, 999_999_999,
+            1_000_000_000, 1_000_000_001]
+FLOATS = [0x0000000000000000, 0x8000000000000000, 0x3FF0000000000000, 0xBFF0000000000000, 0x3FF8000000000000, 0x4004000000000000,
+          0xC014000000000000, 0x7FF0000000000000, 0xFFF0000000000000, 0x7FF8000000000000, 0xFFF8000000000000, 0x7FF0000000000001,
+          0xFFF4000000000123, 0x0000000000000001, 0x800FFFFFFFFFFFFF, 0x0010000000000000, 0x7FEFFFFFFFFFFFFF, 0xFFEFFFFFFFFFFFFF,
+          0x43E0000000000000, 0xC3E0000000000000, 0xC3E0000000000001, 0x43DFFFFFFFFFFFFF, 0x4340000000000001, 0x3FB999999999999A,
+          0x3FD5555555555555, 0x4008000000000000]
+TAPES = [0, 1, 2, 4, 8, 16, 32, 32, 64, 64, 64, 200]
+
+
+def op(kind, *held):
+    """A record from what an op holds: values of a Set, a count, a Move's way, an Offset's two, a mode, a comment's bytes."""
+    if kind in (SET, SETF):
+        return record(kind, struct.pack("<%dQ" % len(held), *[v & WORD for v in held]))
+    if kind == MOVE:
+        return record(kind, struct.pack("<q", held[0]))
+    if kind == OFFSET:
+        return record(kind, struct.pack("<QI", held[0] & WORD, held[1]))
+    if kind in (GET, PUT):
+        return record(kind, struct.pack("<H", held[0]))
+    if kind == COMMENT:
+        return record(kind, held[0] if held else b"")
+    if kind in COUNTED:
+        return record(kind, struct.pack("<I", held[0]))
+    return record(kind)
+
+
+def patch(*ops):
+    return b"".join(ops)
+
+
+def sized(sort, data, tape=0, inputs=(), room=4, budget=100):
+    """A run with lent slices of the least lengths, all zeros."""
+    c = Case(sort, data)
+    c.budget = budget
+    c.inputs = [v & WORD for v in inputs]
+    c.tape = [0] * tape
+    c.register = [0] * 1024
+    c.table = [0] * 256
+    c.channel = [0] * 256
+    c.outputs = [0] * room
+    return c
+
+
+def fresh(data, **sizes):
+    return sized(FRESH, data, **sizes)
+
+
+def state(data, m=None, **sizes):
+    c = sized(RUN, data, **sizes)
+    c.machine = m or Machine()
+    return c
+
+
+def joining(data, room=None, fill=0xA5):
+    c = Case(JOIN, data)
+    c.room = len(data) if room is None else room
+    c.fill = fill
+    return c
+
+
+def flattening(data, room=None, bodies=None, fill=0x5A):
+    c = Case(FLATTEN, data)
+    c.room = len(data) if room is None else room
+    c.bodies = marks(data) if bodies is None else bodies
+    c.fill = fill
+    return c
+
+
+def marks(data):
+    number, _, ops = model01.read_patch(data)
+    return 0 if number else sum(o.kind == FUNCTION for o in ops)
+
+
+def checking(data):
+    return Case(CHECK, data)
+
+
+# ---- every short patch
+
+ALPHABET = [
+    op(SET), op(SET, 0), op(SET, 1), op(SET, -1), op(SET, 2, 3), op(FUNCTION), op(CALL), op(RETURN), op(WHILE), op(IF), op(ELSE),
+    op(END), op(STORE, 1), op(LOAD, 1), op(LOAD, 0), op(MOVE, 1), op(MOVE, -1), op(WHERE), op(DEREF), op(REFER), op(OFFSET, 5, 1),
+    op(model01.ADD, 1), op(model01.DIV, 2), op(AND, 1), op(model01.SWAP, 1), op(model01.DEC, 1), op(GEZ, 1), op(GET, 0), op(GET, 1),
+    op(PUT, 0), op(PUT, 1), op(ALLOC), op(PEEK), op(POKE), op(COMMENT, b"a"), op(SETF, 0x3FF8000000000000),
+]
+
+
+def exhaustive():
+    for n in range(4):
+        for ops in itertools.product(ALPHABET, repeat=n):
+            data = b"".join(ops)
+            yield fresh(data, tape=3, inputs=(32, 305, 65), room=3, budget=20)
+            yield checking(data)
+            yield joining(data)
+            yield flattening(data)
+
+
+# ---- random patches
+
+class Maker:
+    def __init__(self, seed):
+        self.r = random.Random(seed)
+        # of the patch in work: functions to call, pointers saved and values sent by the ops so far
+        self.functions = self.saved = self.sent = 0
+
+    def value(self, floats=False):
+        r = self.r
+        pick = r.random()
+        if floats and pick < 0.8:
+            return r.choice(FLOATS)
+        if pick < 0.5:
+            return r.randrange(6)
+        if pick < 0.9:
+            return r.choice(INTEGERS)
+        if pick < 0.93:
+            return r.choice(FLOATS)
+        return r.getrandbits(64)
+
+    def count(self, known=None):
+        r = self.r
+        if known is not None:
+            return r.randint(0, min(known, 4)) if r.random() < 0.97 else known
+        pick = r.random()
+        if pick < 0.9:
+            return r.choice([0, 1, 1, 1, 2, 2, 3])
+        return r.choice([4, 5, 8, 16, 17]) if pick < 0.99 else r.choice([100, 1023, 1024])
+
+    def comment(self):
+        r = self.r
+        if r.random() < 0.97:
+            return "".join(r.choice(["a", "b", " ", "é", "ß", "→"]) for _ in range(r.choice([0, 1, 2, 5]))).encode()
+        return bytes(r.randrange(256) for _ in range(r.choice([1, 2, 5, 255])))
+
+    def make(self, kind, known=None, floats=False):
+        """An op of this kind. What would most often be refused, as a Refer with nothing saved, is most often another op."""
+        r = self.r
+        if r.random() < 0.93:
+            if kind == DEREF:
+                self.saved += 1
+                return op(SET, r.randrange(6)) + op(STORE, 1) + op(DEREF)
+            if kind == REFER and not self.saved:
+                kind = WHERE
+            elif kind == PEEK and not self.sent:
+                kind = POKE
+            elif kind == CALL and self.functions:
+                return op(SET, r.randrange(self.functions)) + op(CALL)
+            elif kind == CALL:
+                kind = FREE
+            elif kind == ALLOC:
+                return op(SET, r.choice([0, 1, 2, 30_000])) + op(ALLOC)
+        self.saved += (kind == DEREF) - (kind == REFER)
+        self.sent += (kind == POKE) - (kind == PEEK)
+        if kind in (SET, SETF):
+            n = r.choice([0, 1, 1, 1, 1, 2, 2, 3, 4]) if r.random() < 0.99 else r.choice([16, 64])
+            return op(kind, *[self.value(floats or kind == SETF) for _ in range(n)])
+        if kind == MOVE:
+            if r.random() < 0.95:
+                return op(kind, r.choice([0, 1, 1, 1, 2, 3, -1, -1, -2, -3]))
+            return op(kind, r.choice([5, 100, 4096, 99_999, 100_000, -(1 << 63), (1 << 63) - 1, 1_000_000_000, 999_999_999, -5]))
+        if kind == OFFSET:
+            return op(kind, self.value(), self.count(known))
+        if kind in (GET, PUT):
+            return op(kind, r.choice([0, 0, 1, 1, 3]))
+        if kind == COMMENT:
+            return op(kind, self.comment())
+        if kind in COUNTED:
+            return op(kind, self.count(None if kind == LOAD else known))
+        return op(kind)
+
+    def soup(self, n, floats=False):
+        """Any ops in any order."""
+        r = self.r
+        pool = FLOAT_KINDS if floats else KINDS
+        known = 1024
+        out = []
+        for _ in range(n):
+            kind = r.choice(pool if r.random() < 0.7 else KINDS)
+            one = self.make(kind, known if r.random() < 0.95 else None, floats)
+            if kind in (SET, SETF, LOAD):
+                known = model01.read_patch(one)[2][-1].n
+            out.append(one)
+        return out
+
+    def steady(self, known, floats=False):
+        """One op that is no bracket, within the known lanes; the lanes known after it."""
+        r = self.r
+        pick = r.random()
+        if pick < 0.25:
+            n = r.choice([1, 1, 2, 3])
+            return op(SETF if floats else SET, *[self.value(floats) for _ in range(n)]), n
+        if pick < 0.4:
+            n = r.choice([1, 1, 2, 3])
+            return op(LOAD, n), n
+        if pick < 0.5:
+            return op(STORE, min(known, r.choice([1, 1, 2, 3]))), known
+        if pick < 0.6:
+            return self.make(MOVE), known
+        if pick < 0.75:
+            kind = r.choice(FLOAT_KINDS if floats else sorted(CELL_OPS))
+            return self.make(kind, known), known
+        if pick < 0.85:
+            return self.make(r.choice(sorted(LANE_OPS)), known), known
+        if pick < 0.92 and known:
+            return self.make(r.choice([GET, PUT, PUT])), known
+        kind = r.choice(PLAIN + [COMMENT])
+        one = self.make(kind)
+        return one, min(known, 1) if kind in (DEREF, ALLOC) else known
+
+    def block(self, n, known, checked, floats, nest=0):
+        """A well-bracketed block of about n ops; checked keeps within the known lanes."""
+        r = self.r
+        out = []
+        while n > 0:
+            n -= 1
+            pick = r.random()
+            if pick < 0.25 and nest < 4 and n > 1 and known:
+                kind = r.choice([IF, IF, WHILE, FUNCTION])
+                inner = r.randint(0, n)
+                n -= inner
+                out.append(op(kind))
+                if kind == IF and r.random() < 0.6:
+                    a, _ = self.block(inner // 2, 1, checked, floats, nest + 1)
+                    b, _ = self.block(inner - inner // 2, 1, checked, floats, nest + 1)
+                    out += a + [op(ELSE)] + b
+                else:
+                    a, _ = self.block(inner, 1, checked, floats, nest + 1)
+                    if kind == WHILE and r.random() < 0.5:
+                        a += [op(SET, 0)] if r.random() < 0.5 else [op(model01.DEC, 1)]
+                    if kind == FUNCTION and r.random() < 0.7:
+                        a += [op(RETURN)]
+                    out += a
+                # the End needs a lane, and so may what stands before an Else
+                if checked:
+                    out.append(op(SET, r.choice([0, 0, 1])) if r.random() < 0.3 else op(LOAD, 1))
+                out.append(op(END))
+                known = 1
+            elif pick < 0.33 and known:
+                out.append(self.make(CALL))
+                known = 1 if known else 0
+            elif pick < 0.35 and known and not checked:
+                out.append(op(RETURN))
+                known = 1
+            elif checked:
+                one, known = self.steady(known, floats)
+                out.append(one)
+            else:
+                kind = r.choice(FLOAT_KINDS if floats and r.random() < 0.6 else UNBRACKETED)
+                one = self.make(kind, known if r.random() < 0.97 else None, floats)
+                if kind in (SET, SETF, LOAD):
+                    known = model01.read_patch(one)[2][-1].n
+                out.append(one)
+        return out, known
+
+    def ops(self, floats=False):
+        """The ops of a patch of some style, and the style."""
+        r = self.r
+        n = r.choice([1, 2, 3, 5, 8, 12, 20, 30, 40])
+        pick = r.random()
+        self.saved = self.sent = 0
+        # so that cells can be reached
+        head = r.choice([[], [op(LOAD, r.choice([0, 1, 2]))], [op(ALLOC)], [op(LOAD, 8), op(SET, 5, 7, 1, 0)], [op(LOAD, 8)],
+                         [op(LOAD, 3), op(SET, *[self.value(floats) for _ in range(3)]), op(STORE, 3)], [op(LOAD, 8), op(MOVE, 4)]])
+        self.functions = r.choice([0, 0, 1, 2, 3])
+        tail = []
+        checked = pick >= 0.65
+        for _ in range(self.functions):
+            body, _ = self.block(r.randint(0, 5), 1, checked, floats, 3)
+            tail += [op(FUNCTION)] + body + ([op(LOAD, 1)] if checked else []) + ([op(RETURN)] if r.random() < 0.8 else []) + [op(END)]
+        if r.random() < 0.5:
+            head, tail = tail + head, []
+        elif r.random() < 0.7:
+            tail = ([op(LOAD, 1)] if checked else []) + [op(RETURN)] + tail
+        if pick < 0.3:
+            return self.split(head + self.soup(n, floats) + tail), "soup"
+        return self.split(head + self.block(n, 1024, checked, floats)[0] + tail), "checked" if checked else "bracketed"
+
+    @staticmethod
+    def split(ops):
+        """One op an element."""
+        return [o.record for o in model01.read_patch(b"".join(ops))[2]]
+
+    def inputs(self):
+        r = self.r
+        return [r.choice([32, 9, 10, 11, 12, 13, 48, 49, 50, 53, 57, 57, 58, 47, 65, 45, 43, 288, 305, WORD, 1 << 63, r.getrandbits(64)])
+                for _ in range(r.choice([0, 0, 1, 3, 6, 10, 25]))]
+
+    def sizes(self):
+        r = self.r
+        return dict(tape=r.choice(TAPES) if r.random() < 0.98 else r.choice([4095, 4096]), inputs=self.inputs(),
+                    room=r.choice([0, 1, 2, 4, 8, 40, 40]), budget=r.choice([0, 1, 3, 20, 100, 100, 100, 300, 300]))
+
+    def dirt(self, values, chance=0.3):
+        """Something in a lent slice that a fresh run or the counts leave out."""
+        r = self.r
+        if values and r.random() < chance:
+            for _ in range(r.choice([1, 2, 3])):
+                values[r.randrange(len(values))] = self.value()
+
+    def fresh(self, floats=False):
+        ops, style = self.ops(floats)
+        c = fresh(b"".join(ops), **self.sizes())
+        c.style = style + (" floats" if floats else "")
+        for values in (c.tape, c.register, c.channel, c.outputs):
+            self.dirt(values)
+        return c
+
+    def mid(self, floats=False):
+        """A run from a well-formed state."""
+        r = self.r
+        ops, _ = self.ops(floats)
+        c = state(b"".join(ops), **self.sizes())
+        c.style = "mid-state"
+        m = c.machine
+        m.position = r.randint(0, len(ops)) if r.random() < 0.5 else 0
+        m.halted = int(r.random() < 0.02)
+        m.counted = r.choice([0, 1, len(c.tape), len(c.tape), 29_999, 30_000, 100_000, 100_000, 100_000, 100_000, 130_000])
+        m.pointer = r.choice([0, 0, 0, 1, 2, 5, 5, 5, len(c.tape) // 2, max(0, len(c.tape) - 1), len(c.tape), 99_999])
+        reach = min(m.counted, len(c.tape))
+        for i in range(min(reach, 24)):
+            if r.random() < 0.7:
+                c.tape[i] = self.value(floats) if r.random() < 0.6 else r.randrange(12)
+        m.lanes = r.choice([0, 1, 2, 3, 4, 4, 8, 8, 1023, 1024])
+        for i in range(min(m.lanes + 2, 12)):
+            c.register[i] = self.value(floats)
+        places = [i for i, o in enumerate(ops) if o == op(FUNCTION)]
+        table = sorted(r.sample(places, r.randint(0, len(places))))
+        c.table[:len(table)] = table
+        m.functions = len(table)
+        if r.random() < 0.2:
+            c.table[r.randrange(len(table), 256)] = r.randrange(4096)
+        if ops:
+            m.calls = [r.randrange(len(ops)) for _ in range(r.choice([0, 0, 1, 2, 3]))]
+        m.refs = [r.choice([0, 0, 1, 2, 3, 5, len(c.tape)]) for _ in range(r.choice([0, 0, 1, 2, 3]))]
+        m.first = r.choice([0, 0, 1, 200, 254, 255])
+        m.waiting = r.choice([0, 0, 1, 2, 3])
+        for k in range(m.waiting):
+            c.channel[(m.first + k) % 256] = self.value()
+        self.dirt(c.channel, 0.2)
+        m.taken = r.randint(0, len(c.inputs))
+        m.written = r.randint(0, min(3, len(c.outputs)))
+        for i in range(m.written):
+            c.outputs[i] = r.randrange(128)
+        self.dirt(c.outputs, 0.2)
+        if r.random() < 0.02 and reach < len(c.tape):
+            c.tape[r.randrange(reach, len(c.tape))] = 1 + r.randrange(5)
+            c.style = "lent cells not zero"
+        return c
+
+    def edge(self):
+        """A state at a limit, or one away from it."""
+        r = self.r
+        c = self.mid()
+        c.style = "boundary"
+        m = c.machine
+        ops = model01.read_patch(c.patch)[2]
+        more = []
+        for _ in range(r.choice([1, 1, 2])):
+            pick = r.randrange(8)
+            if pick == 0 and ops:
+                m.calls = [r.randrange(len(ops)) for _ in range(r.choice([254, 255, 256]))]
+                more += [op(SET, 0), op(CALL)]
+            elif pick == 1:
+                m.refs = [r.choice([0, 1]) for _ in range(r.choice([254, 255, 256]))]
+                more += [op(DEREF)]
+            elif pick == 2:
+                m.waiting = r.choice([254, 255, 256])
+                for k in range(m.waiting):
+                    c.channel[(m.first + k) % 256] = k % 7
+                more += [op(r.choice([POKE, POKE, PEEK]))]
+            elif pick == 3:
+                m.pointer = 1_000_000_000 - r.randrange(3)
+                more += [op(MOVE, r.choice([0, 1, 2, 3, -1]))]
+            elif pick == 4:
+                m.counted = 2_000_000_000 - r.randrange(4)
+                more += [op(SET, r.randrange(5)), op(ALLOC)]
+            elif pick == 5:
+                c.outputs = c.outputs[:m.written + r.randrange(4)]
+                more += [op(SET, r.choice([5, 10, WORD, 1 << 63])), op(PUT, r.choice([0, 1, 1, 3]))]
+            elif pick == 6:
+                m.pointer = max(0, len(c.tape) - r.randrange(3))
+                more += [self.make(r.choice([LOAD, STORE, DEREF] + sorted(CELL_OPS)))]
+            else:
+                m.lanes = r.choice([0, 1, 2])
+                more += [self.make(r.choice(KINDS))]
+        if r.random() < 0.6:
+            # the ops in question come first, where they are sure to be run, and every place moves on with them
+            k = len(more)
+            c.patch = b"".join(more) + c.patch
+            m.calls = [p + k for p in m.calls]
+            c.table[:m.functions] = [t + k for t in c.table[:m.functions]]
+            m.position = 0
+        return c
+
+    def no_state(self):
+        """A state with one thing wrong."""
+        r = self.r
+        c = self.mid()
+        c.style = "no state"
+        m = c.machine
+        ops = len(model01.read_patch(c.patch)[2])
+        pick = r.randrange(18)
+        if pick == 0:
+            m.position = ops + 1 + r.randrange(3)
+        elif pick == 1:
+            m.pointer = 1_000_000_001
+        elif pick == 2:
+            m.counted = 2_000_000_001
+        elif pick == 3:
+            m.lanes = 1025
+            c.register += [0, 0]
+        elif pick == 4:
+            m.functions = 257
+            c.table += [0]
+        elif pick == 5:
+            m.calls = [0] * 257
+        elif pick == 6:
+            m.refs = [0] * 257
+        elif pick == 7:
+            m.waiting = 257
+        elif pick == 8:
+            m.first = 256 + r.randrange(2)
+            c.channel += [0, 0]
+        elif pick == 9:
+            m.calls = m.calls + [ops + r.randrange(2)]
+        elif pick == 10:
+            m.refs = m.refs + [1_000_000_001]
+        elif pick == 11:
+            m.taken = len(c.inputs) + 1
+        elif pick == 12:
+            m.written = len(c.outputs) + 1
+        elif pick == 13:
+            c.register.pop()
+        elif pick == 14:
+            c.table.pop()
+        elif pick == 15:
+            c.channel.pop()
+        elif pick == 16:
+            c.table[m.functions] = ops + r.randrange(3)
+            m.functions += 1
+        else:
+            c.table[m.functions] = c.table[m.functions - 1] if m.functions else 0
+            m.functions += 1
+        return c
+
+    def short_room(self):
+        """A fresh run in lent room that is too short, or just long enough."""
+        r = self.r
+        c = self.fresh()
+        c.style = "lent room"
+        name = r.choice(["register", "table", "channel"])
+        values = getattr(c, name)
+        setattr(c, name, values[:-1] if r.random() < 0.7 else values + [3])
+        return c
+
+    def shape(self):
+        """Ops that join with their neighbours, and brackets for flattening."""
+        r = self.r
+        pool = [op(MOVE, r.choice([1, -1, 3])), op(MOVE, -3), op(MOVE, 1), op(MOVE, 0), op(MOVE, -(1 << 63)), op(SET, 1), op(SET, WORD),
+                op(SET, 5, 6), op(SET), op(DEREF), op(REFER), op(ELSE), op(END), op(OFFSET, 4, 1), op(OFFSET, -4, 2), op(STORE, 1),
+                op(LOAD, 1), op(STORE, 2), op(LOAD, 2), op(LOAD, 0), op(STORE, 0), op(GEZ, 1), op(GEZ, 2), op(model01.GEZF, 1),
+                op(SETF, 0x3FF8000000000000), op(COMMENT, b"a"), op(IF), op(WHILE), op(FUNCTION), op(PUT, 0), op(PEEK)]
+        return b"".join(r.choice(pool) for _ in range(r.choice([1, 2, 3, 4, 6, 10, 20, 60])))
+
+    def nested(self):
+        """Brackets nested in any way, closed or not, with few stray Ends."""
+        r = self.r
+        out, depth = [], 0
+        for _ in range(r.choice([1, 2, 4, 6, 10, 16, 40])):
+            pick = r.random()
+            if pick < 0.3:
+                out.append(op(FUNCTION))
+                depth += 1
+            elif pick < 0.4:
+                out.append(op(r.choice([IF, WHILE])))
+                depth += 1
+            elif pick < 0.75 and (depth or r.random() < 0.03):
+                out.append(op(END))
+                depth = max(0, depth - 1)
+            else:
+                out.append(r.choice([op(COMMENT, self.comment()), op(RETURN), op(ELSE), op(SET, 1), op(FREE)]))
+        return b"".join(out)
+
+    def room(self, data):
+        r = self.r
+        return len(data) + r.choice([0, 0, 0, 0, 1, 7]) if r.random() < 0.93 else max(0, len(data) - r.choice([1, 2, 10]))
+
+    def bad(self):
+        """A patch file with something changed, for any of the calls."""
+        r = self.r
+        data = bytearray(b"".join(self.ops()[0]))
+        for _ in range(r.choice([1, 1, 2])):
+            pick = r.random()
+            if pick < 0.5 and data:
+                data[r.randrange(len(data))] = r.choice([0, 1, 2, 3, 4, 5, 255, r.randrange(256)])
+            elif pick < 0.7:
+                del data[r.randint(0, len(data)):]
+            elif pick < 0.8:
+                data += record(r.choice([40, 255, 268, 270, 274, 277, 278, 65535]), bytes(r.choice([0, 4])))
+            elif pick < 0.9:
+                data += record(r.choice([GET, PUT]), struct.pack("<H", r.choice([2, 4, 5, 258])))
+            else:
+                data += record(r.choice([STORE, LOAD, GEZ]), struct.pack("<I", r.choice([1025, 1024, 1 << 31, WORD & 0xFFFFFFFF])))
+        return self.call(bytes(data))
+
+    def call(self, data):
+        r = self.r
+        sort = r.choice([FRESH, FRESH, JOIN, FLATTEN, CHECK, CHECK])
+        if sort == FRESH:
+            return fresh(data, **self.sizes())
+        if sort == JOIN:
+            return joining(data, self.room(data), r.randrange(256))
+        if sort == FLATTEN:
+            return flattening(data, self.room(data), marks(data) + r.choice([0, 0, 1]), r.randrange(256))
+        return checking(data)
+
+    def case(self):
+        r = self.r
+        pick = r.random()
+        if pick < 0.40:
+            return self.fresh(r.random() < 0.25)
+        if pick < 0.65:
+            return self.mid(r.random() < 0.25)
+        if pick < 0.76:
+            return self.edge()
+        if pick < 0.86:
+            data = self.shape()
+            return joining(data, self.room(data), r.randrange(256))
+        if pick < 0.94:
+            data = self.nested()
+            return flattening(data, self.room(data), max(0, marks(data) + r.choice([0, 0, 0, 1, 3, -1])), r.randrange(256))
+        if pick < 0.96:
+            return self.bad()
+        if pick < 0.975:
+            return self.no_state()
+        if pick < 0.98:
+            return self.short_room()
+        data = b"".join(self.ops()[0]) if r.random() < 0.5 else self.nested()
+        return checking(data)
+
+
+def randoms(seed, count):
+    maker = Maker(seed)
+    for _ in range(count):
+        yield maker.case()
+
+
+# ---- around every limit
+
+def boundary():
+    """Cases at each limit and one past it, from fresh or from a state."""
+    nop = op(FREE)
+    # 1 to 9
+    for cut in range(1, 14):
+        yield checking(op(SET, 1)[:cut])
+    for length in (0, 1, 2, 3, 9, 11, 0xFFFFFFFF, 0x7FFFFFFF):
+        yield checking(struct.pack("<I", length) + op(SET, 1)[4:])
+        yield fresh(op(FREE) + struct.pack("<I", length) + op(SET, 1)[4:])
+    for kind in (40, 255, 256, 268, 274, 277, 278, 65535):
+        for payload in (b"", bytes(4)):
+            yield checking(nop + record(kind, payload))
+            yield joining(nop + record(kind, payload))
+    for n in (1023, 1024, 1025, 1 << 31, (1 << 32) - 1):
+        for kind in (STORE, LOAD, GEZ):
+            yield fresh(op(kind, n), tape=2000)
+        yield fresh(op(OFFSET, 7, n))
+    for n in (1023, 1024, 1025):
+        yield fresh(record(SET, bytes(8 * n)), tape=4)
+        yield fresh(record(SETF, bytes(8 * n) + b"\1"), tape=4)
+    for n in (254, 255, 256):
+        yield fresh(op(COMMENT, b"c" * n))
+    for kind in (GET, PUT):
+        for mode in (0, 1, 2, 3, 4, 258):
+            yield fresh(op(kind, mode), inputs=(50,))
+            yield fresh(record(kind, struct.pack("<H", mode) + b"\0"))
+    for n in (4095, 4096, 4097):
+        yield fresh(nop * n, budget=3)
+        yield checking(nop * n)
+        yield joining(nop * n)
+    yield fresh(nop * 4096, budget=5000)
+    yield checking(nop * 4096 + b"\1")
+    for n in (255, 256, 257):
+        yield checking(op(FUNCTION) * n)
+        yield flattening(op(FUNCTION) * n)
+        yield fresh((op(FUNCTION) + op(END)) * n, budget=1000)
+        yield flattening(nop + (op(FUNCTION) + op(END)) * n)
+    yield flattening(op(FUNCTION) * 256 + nop * 3841)
+    wide = op(SET, *[3] * 1000)
+    for n in (65535, 65536, 65537):
+        rest = n - 8 * len(wide) - 6
+        body = b""
+        while rest > 100:
+            body += op(COMMENT, b"x" * 94)
+            rest -= 100
+        yield checking(wide * 8 + body + op(COMMENT, b"y" * rest))
+    yield fresh(bytes(65537))
+    yield flattening(bytes(65537), bodies=0)
+    # 20 to 36, in a run
+    for opener in (FUNCTION, ELSE, WHILE, IF):
+        for tail in ([], [END], [ELSE], [IF, END], [ELSE, END], [WHILE, END, END], [FUNCTION, ELSE, END]):
+            for lane in (0, 1):
+                yield fresh(op(SET, lane) + op(opener) + b"".join(op(k) for k in tail))
+                yield fresh(op(END) + op(opener) + op(SET, lane) + b"".join(op(k) for k in tail) + op(PUT, 1))
+    for kind in KINDS:
+        if kind in COUNTED or kind == OFFSET:
+            held = (9,) if kind == OFFSET else ()
+            for lanes, n in ((0, 0), (0, 1), (1, 1), (1, 2), (2, 2), (3, 2)):
+                for counted, tape in ((0, 4), (1, 4), (2, 4), (2, 1), (100, 1), (100, 2)):
+                    c = state(op(kind, *held, n), tape=tape)
+                    c.machine.lanes, c.machine.counted = lanes, counted
+                    c.register[:3] = [6, WORD - 8, 5]
+                    c.tape[:min(2, counted, tape)] = [3, WORD - 1][:min(2, counted, tape)]
+                    yield c
+        elif kind in EMPTY or kind in (GET, PUT):
+            for mode in (0, 1, 3) if kind in (GET, PUT) else ((),):
+                for lanes in (0, 1):
+                    for inputs in ((), (288, 57, 49), (50,)):
+                        c = state(op(kind, *([mode] if mode != () else [])) + op(END), tape=2, inputs=inputs, room=1)
+                        c.machine.lanes = lanes
+                        c.register[:2] = [0, 3]
+                        yield c
+    for at in (0, 1, 999_999_999, 1_000_000_000):
+        for way in (0, 1, -1, 1_000_000_000, 1_000_000_001, (1 << 63) - 1, -(1 << 63), -999_999_999):
+            c = state(op(MOVE, way) + op(WHERE))
+            c.machine.pointer = at
+            yield c
+    for cell in (0, 1, 999_999_999, 1_000_000_000, 1_000_000_001, WORD, 1 << 63, (1 << 63) - 1):
+        for counted in (0, 1, 5):
+            c = state(op(DEREF) + op(REFER) + op(REFER), tape=1)
+            c.machine.counted = counted
+            c.tape[0] = cell if counted else 0
+            yield c
+    for counted in (0, 29_999, 30_000, 1_999_970_000, 1_999_999_999, 2_000_000_000):
+        for more in (0, 1, 2, 29_999, 30_000, 30_001, 1_999_970_000, 1_999_970_001, 2_000_000_000, WORD, 1 << 63, (1 << 63) - 1):
+            c = state(op(SET, more) + op(ALLOC) + op(ALLOC))
+            c.machine.counted = counted
+            yield c
+    for pointer, n in ((0, 0), (0, 1), (99_999, 0), (99_999, 1), (100_000, 0), (99_998, 1), (199_999, 1), (250_000, 0), (3, 1), (4, 1)):
+        for kind in (LOAD, STORE):
+            for counted in (0, 4, 5, 100_000):
+                c = state(op(kind, n), tape=4)
+                c.machine.pointer, c.machine.counted = pointer, counted
+                yield c
+    for k in (0, 1, 2, 3, WORD, 1 << 63, (1 << 63) - 1):
+        for table in ([], [4], [1], [1, 4]):
+            for full in (0, 255, 256):
+                # fun at 1 and 4, after a call at 0
+                c = state(op(CALL) + op(FUNCTION) + op(FREE) + op(END) + op(FUNCTION) + op(RETURN) + op(END))
+                m = c.machine
+                c.register[0] = k
+                c.table[:len(table)] = table
+                m.functions = len(table)
+                m.calls = [6] * full
+                yield c
+    yield fresh(op(SET, 0) + op(CALL) + op(FUNCTION) + op(CALL) + op(END), budget=1000)
+    yield fresh(op(SET, 1) + op(WHILE) + op(POKE) + op(END), budget=1000)
+    yield fresh(op(SET, 0) + op(STORE, 1) + op(SET, 1) + op(WHILE) + op(DEREF) + op(END), tape=1, budget=1000)
+    yield fresh(op(SET, 7) + op(WHILE) + op(PUT, 0) + op(END), room=9, budget=1000)
+    for room in range(6):
+        for value in (5, 10, WORD, 1 << 63):
+            for mode in (0, 1, 3):
+                yield fresh(op(SET, value) + op(PUT, mode) + op(PUT, mode), room=room)
+    for first in (0, 1, 254, 255):
+        for waiting in (0, 1, 2, 255, 256):
+            c = state(op(POKE) + op(PEEK) + op(PEEK) + op(POKE) + op(POKE))
+            m = c.machine
+            m.first, m.waiting = first, waiting
+            c.channel = [7 + k for k in range(256)]
+            c.register[0] = 99
+            yield c
+    # budgets
+    for budget in (0, 1, 2, 3, 4, 5, 6):
+        yield fresh(op(SET, 2) + op(WHILE) + op(model01.DEC, 1) + op(END), budget=budget)
+        yield fresh(op(RETURN) + op(FREE), budget=budget)
+        yield fresh(b"", budget=budget, tape=3)
+        yield fresh(op(FREE) + op(model01.ADD, 1), budget=budget)
+    # 40, and 10 before it
+    for data in (op(MOVE, 3) + op(SET, 1) + op(MOVE, -3), op(FUNCTION) + op(END) + op(FUNCTION) + op(END), op(END), op(FREE)):
+        for room in (0, len(data) - 1, len(data), len(data) + 3):
+            yield joining(data, room)
+            for bodies in (0, 1, 2, 3):
+                yield flattening(data, room, bodies)
+    for text in ([END], [ELSE], [IF, ELSE, END, ELSE], [IF, IF, END], [FUNCTION, WHILE, END], [WHILE, END, END]):
+        yield checking(b"".join(op(k) for k in text))
+    for kind in KINDS:
+        for lanes in (0, 1, 2):
+            held = {OFFSET: (1, 2), GET: (0,), PUT: (0,), MOVE: (1,), SET: (1,), SETF: (1,), COMMENT: (b"",)}.get(kind, (2,))
+            yield checking(op(LOAD, lanes) + op(kind, *held) + op(END) + op(LOAD, lanes) + op(kind, *held))
+            yield checking(op(IF) + op(LOAD, lanes) + op(kind, *held) + op(LOAD, lanes) + op(STORE, 2) + op(END))
+
+
+    yield from telling()
+
+
+def telling():
+    """Where a wrong reading would show: brackets that are left, spaces of input, lanes at the ends of their range."""
+    put = op(PUT, 1)
+    for lane in (0, 1, 2):
+        yield fresh(op(SET, lane) + op(WHILE) + put + op(ELSE) + put + op(END) + put, budget=40, room=40)
+        yield fresh(op(SET, lane) + op(WHILE) + op(IF) + put + op(ELSE) + put + op(END) + op(model01.DEC, 1) + op(END) + put, budget=40)
+        yield fresh(op(SET, lane) + op(IF) + op(WHILE) + op(ELSE) + op(END) + put + op(ELSE) + op(SET, 7) + put + op(END) + put, budget=40)
+        yield fresh(op(SET, lane) + op(FUNCTION) + put + op(END) + op(CALL) + put, budget=40)
+        yield fresh(op(SET, 0) + op(CALL) + op(SET, lane) + op(PUT, 0) + op(FUNCTION) + op(SET, lane) + op(END) + put, budget=20, room=20)
+        yield fresh(op(SET, lane) + op(WHILE) + op(model01.DEC, 1) + put + op(END) + op(END) + put, budget=40)
+        yield fresh(op(ELSE) + op(IF) + op(END) + op(SET, lane) + op(END) + put)
+    for space in (9, 10, 11, 12, 13, 14, 31, 32, 33, 133, 160, 267, 288, 43, 45):
+        yield fresh(op(GET, 1) + op(GET, 1) + op(PUT, 1), inputs=(space, 49, 48), room=2)
+        yield fresh(op(GET, 1) + op(GET, 1), inputs=(49, space, 50, 51))
+    for n in (256, 300):
+        for call in (checking, joining, flattening, fresh):
+            yield call(op(FREE) + op(COMMENT, b"c" * n))
+    # the check: a bracket, a call and a return leave one lane known, also where there were more
+    for lanes in (0, 1, 3):
+        for kind in (FUNCTION, CALL, RETURN, WHILE, IF, ELSE, END):
+            around = op(IF) * (2 if kind == END else 1) + op(LOAD, lanes) + op(kind)
+            yield checking(around + op(STORE, 1) + op(END) * (2 if kind in (FUNCTION, WHILE, IF) else 1))
+            yield checking(around + op(model01.ADD, 2) + op(END))
+    yield fresh(op(GET, 1), inputs=[57] * 25)
+    yield fresh(op(GET, 1) + op(GET, 1) + op(GET, 0), inputs=(47, 58))
+    integers = [0, 1, 7, -7, 2, -2, 63, 64, 1 << 63, WORD, (1 << 63) - 1, 0x123456789ABCDEF]
+    floats = [FLOATS[i] for i in (0, 1, 3, 5, 7, 8, 11, 13, 16, 18, 20, 24)]
+    for kind in sorted(CELL_OPS | LANE_OPS):
+        values = floats if kind >= 259 and kind != model01.TOFLOAT else integers
+        values = [v & WORD for v in values]
+        for turn in range(0, 12, 2):
+            c = state(op(kind, *((-9,) if kind == OFFSET else ()), 12), tape=14)
+            c.register[:12] = values
+            if kind in CELL_OPS:
+                c.tape[1:13] = values[turn:] + values[:turn]
+            elif turn:
+                c.register[:12] = [(v + turn) & WORD for v in values]
+            c.machine.pointer, c.machine.lanes, c.machine.counted = 1, 12, 14
+            yield c
+
+
+# ---- 01's own cases
+
+def paper():
+    """The cases of 'Proved by one table', in its order."""
+    least = 1 << 63
+    for kind in (model01.DIV, model01.REM):
+        for a, b in ((least, WORD), (-7, 2)):
+            yield fresh(op(SET, b) + op(STORE, 1) + op(SET, a) + op(kind, 1), tape=1)
+    yield fresh(op(SET, -1) + op(STORE, 1) + op(SET, 1) + op(model01.LSH, 1), tape=1)
+    yield fresh(op(ALLOC))
+    yield fresh(op(LOAD, 1) + op(ALLOC), tape=1)
+    yield fresh(op(model01.ADD, 1), tape=1)
+    for call in (fresh, checking):
+        yield call(op(LOAD, 0) + op(IF))
+        yield call(op(END))
+    yield fresh(op(GET, 1), inputs=(32, 305, 65))
+    case9 = (op(SET, 1) + op(CALL) + op(SET, 0) + op(CALL) + op(RETURN) + op(FUNCTION) + op(SET, 65) + op(PUT, 0) + op(RETURN) + op(END)
+             + op(FUNCTION) + op(SET, 66) + op(PUT, 0) + op(RETURN) + op(END))
+    yield fresh(case9, tape=4096, room=4096, budget=100_000)
+    yield checking(case9)
+    yield joining(op(MOVE, 3) + op(SET, 1) + op(MOVE, -3))
+    yield joining(op(DEREF) + op(MOVE, 5) + op(REFER))
+    yield flattening(op(COMMENT, b" a") + op(FUNCTION) + op(END) + op(FUNCTION) + op(END))
+    yield fresh(op(SET, 9007199254740993) + op(model01.TOFLOAT, 1))
+
+
+# ---- the rows of docs/DIFFERENCES.md
+
+def at_limit(data, **numbers):
+    c = state(data, tape=1)
+    for name, v in numbers.items():
+        setattr(c.machine, name, v)
+    return c
+
+
+def smallest():
+    """(row's name, what the Rust must do there, the case), in the order of docs/DIFFERENCES.md."""
+    yield "endless search", "hang", fresh(op(SET, 0) + op(WHILE))
+    yield "endless search", "hang", fresh(op(FUNCTION))
+    yield "endless search", "hang", fresh(op(ELSE))
+    yield "endless search", "hang", fresh(op(IF))
+    yield "missing lane", "panic", fresh(op(LOAD, 0) + op(IF))
+    yield "cell beyond the length", "panic", fresh(op(model01.ADD, 1), tape=1)
+    yield "lent tape", "went", fresh(op(LOAD, 1))
+    yield "pointer limit", "went", fresh(op(MOVE, 1_000_000_001))
+    yield "pointer limit", "went", fresh(op(SET, 1_000_000_001) + op(STORE, 1) + op(DEREF), tape=1)
+    yield "negative cell", "panic", fresh(op(SET, -1) + op(STORE, 1) + op(DEREF), tape=1)
+    yield "Alloc's room", "panic", fresh(op(SET, -1) + op(ALLOC))
+    yield "Alloc's room", "big", fresh(op(SET, 1_999_970_001) + op(ALLOC))
+    yield "stack limit", "went", at_limit(op(SET, 0) + op(CALL) + op(FUNCTION) + op(END), calls=[0] * 256)
+    yield "stack limit", "went", at_limit(op(DEREF), refs=[0] * 256)
+    yield "channel limit", "went", at_limit(op(POKE), waiting=256)
+    yield "output room", "went", fresh(op(PUT, 0), room=0)
+    yield "stray End", "panic", flattening(op(END))
+    yield "both refuse", "err", fresh(op(MOVE, -1))
+    yield "both refuse", "err", fresh(op(REFER))
+    yield "both refuse", "err", fresh(op(CALL))
+    yield "both refuse", "err", fresh(op(PEEK))
+    yield "both refuse", "err", fresh(op(GET, 0))
+    yield "negative call", "went", fresh(op(SET, -1) + op(CALL) + op(FUNCTION) + op(END))
+    yield "cell skipped", "went", fresh(op(AND, 1), tape=1)
+    yield "cell skipped", "went", fresh(op(SET, 1) + op(model01.OR, 1), tape=1)
+    yield "divisor before lane", "went", fresh(op(LOAD, 1) + op(model01.DIV, 2), tape=2)
+    yield "divisor before lane", "went", fresh(op(LOAD, 1) + op(model01.REM, 2), tape=2)
+    yield "device before lane", "err", fresh(op(LOAD, 0) + op(GET, 0))
+    yield "device before lane", "err", fresh(op(LOAD, 0) + op(PEEK))
+    yield "NaN bits", "agree", fresh(op(LOAD, 1) + op(SETF, 0) + op(model01.DIVF, 1), tape=1)
+    c = state(op(LOAD, 1), tape=1)
+    c.tape[0] = 1
+    yield "lent cells not zero", "dirty", c
+    yield "comment bytes", "utf8", fresh(op(COMMENT, b"\xff"))
+
+
+def rusts_own():
+    """(row's name, a case with the answer that docs/DIFFERENCES.md says the Rust gives, where that is not ours)."""
+    def said(c, steps, number, register, **numbers):
+        c.budget = steps
+        c.answer = Answer(number, 0)
+        c.answer.steps = steps
+        for name in SLICES:
+            setattr(c.answer, name, getattr(c, name)[:])
+        m = c.answer.machine = Machine()
+        for name, v in numbers.items():
+            setattr(m, name, v)
+        c.answer.place = m.position
+        c.answer.register[:len(register)] = [v & WORD for v in register]
+        return c
+
+    jump = said(fresh(op(SET, -1) + op(CALL) + op(FUNCTION) + op(END)), 2, 50, [-1], position=1, lanes=1, functions=1, calls=[1])
+    yield "negative call", jump
+    yield "cell skipped", said(fresh(op(AND, 1), tape=2), 1, 0, [0], position=1)
+    yield "cell skipped", said(fresh(op(SET, 1) + op(model01.OR, 1), tape=2), 2, 0, [1], position=2, lanes=1)
+    for kind in (model01.DIV, model01.REM):
+        passed = said(fresh(op(LOAD, 1) + op(kind, 2), tape=2), 2, 0, [0], position=2, lanes=1, counted=100_000)
+        yield "divisor before lane", passed
+    yield "lent tape", said(fresh(op(LOAD, 1)), 1, 0, [0], position=1, lanes=1, counted=100_000)
+
+
+def answered(cases):
+    for c in cases:
+        c.answer = model01.answer(c)
+        yield c
+
+
+def main(args):
+    if args[:1] == ["exhaustive"]:
+        cases = exhaustive()
+    elif args[:1] == ["boundary"]:
+        cases = itertools.chain(paper(), boundary())
+    elif args[:1] == ["smallest"]:
+        cases = (c for _, _, c in smallest())
+    elif args[:1] == ["random"] and len(args) == 3:
+        cases = randoms(int(args[1]), int(args[2]))
+    else:
+        sys.exit(__doc__)
+    out = sys.stdout.buffer
+    for c in answered(cases):
+        out.write(write(c))
+
+
+if __name__ == "__main__":
+    main(sys.argv[1:])

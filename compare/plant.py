@@ -1,0 +1,111 @@
+#!/usr/bin/env python3
+"""Plants wrong readings in the model, one at a time, and counts how many cases of the stored lists find each.
+
+    plant.py        exit status 1 if one is found by no case
+"""
+import os
+import sys
+import types
+
+import lists
+
+HERE = os.path.dirname(os.path.abspath(__file__))
+# what is wrong, the line of model01.py that says it right, and the wrong one
+READINGS = [
+    ("End goes back to test the While again", "                m.position = partner\n", "                m.position = partner - 1\n"),
+    ("an End of a function returns", "        if reg[0] != 0:\n            partner = partner_of_end(ops, at)\n",
+     "        partner = partner_of_end(ops, at)\n        if partner is not None and ops[partner].kind == FUNCTION and m.calls:\n"
+     "            m.position = m.calls.pop()\n        elif reg[0] != 0:\n"),
+    ("Else in a While loops", "    elif kind == ELSE:\n        end = to_end(ops, at)\n",
+     "    elif kind == ELSE:\n        end = to_end(ops, at)\n        back = partner_of_end(ops, at)\n"
+     "        if back is not None and ops[back].kind == WHILE and end is not None:\n            end = back\n"),
+    ("an If takes an Else at any depth", "at_else and depth == 1", "at_else"),
+    ("a call takes the k-th mark, not the table's entry", "        if m.functions > k:\n", "        if False:\n"),
+    ("the table is not sorted", "sorted(table[:count] + [place])", "table[:count] + [place]"),
+    ("Function enters nothing", "        enter(m, s.table, at)\n        m.position = end\n", "        m.position = end\n"),
+    ("Return halts in place", "            m.halted = 1\n", "            m.halted = 1\n            m.position -= 1\n"),
+    ("the tape grows by > and not by >=", "    if reach >= m.counted:\n", "    if reach > m.counted:\n"),
+    ("a growth is one block", "BLOCK * ((reach - m.counted) // BLOCK + 1)", "BLOCK"),
+    ("Alloc answers the length", "        reg[0] = length - 1\n", "        reg[0] = length\n"),
+    ("Alloc always grows by 30,000", "(30000 if m.counted < 30000 else 0)", "30000"),
+    ("gez-f is a test of the sign bit", "int(as_float(a) >= 0.0)", "int(not a & LEAST)"),
+    ("neg-f is a subtraction from 0", "NEGF: lambda a: a ^ LEAST", "NEGF: lambda a: stored(0.0 - as_float(a))"),
+    ("VT is a space", "(32, 9, 10, 12, 13)", "(32, 9, 10, 11, 12, 13)"),
+    ("int input looks at whole values", "48 <= inputs[m.taken] % 256 <= 57", "48 <= inputs[m.taken] <= 57"),
+    ("a shift by 64 or more gives 0", "LSH: lambda a, b: a << (b % 64) & WORD", "LSH: lambda a, b: a << b & WORD if b < 64 else 0"),
+    ("division rounds down", "    return (q if (a < 0) == (b < 0) else -q) & WORD\n", "    return a // b & WORD\n"),
+    ("a remainder has the divisor's sign", "    return (-r if a < 0 else r) & WORD\n", "    return a % b & WORD\n"),
+    ("to-int wraps", "    if x >= 2.0 ** 63:\n        return LEAST - 1\n", "    if x >= 2.0 ** 63:\n        return LEAST\n"),
+    ("a refused op is counted", "        if a.number:\n            return a\n        a.steps += 1\n",
+     "        a.steps += 1\n        if a.number:\n            return a\n"),
+    ("the budget is tested before the end", "        if m.halted or m.position == len(ops):\n            return a\n        if a.steps == c.budget:\n",
+     "        if a.steps != c.budget and (m.halted or m.position == len(ops)):\n            return a\n        if a.steps == c.budget:\n"),
+    ("23 before 22", "            if p + n > m.counted:\n                return 22\n            if p + n > len(s.tape):\n                return 23\n",
+     "            if p + n > len(s.tape):\n                return 23\n            if p + n > m.counted:\n                return 22\n"),
+    ("32 before 28", "        if k < 0:\n            return 28\n        if len(m.calls) == DEPTH:\n            return 32\n",
+     "        if len(m.calls) == DEPTH:\n            return 32\n        if k < 0:\n            return 28\n"),
+    ("26 before 23", "        if m.pointer >= len(s.tape):\n            return 23\n        value = signed(s.tape[m.pointer])\n",
+     "        value = signed(s.tape[m.pointer]) if m.pointer < len(s.tape) else 0\n"),
+    ("the channel is not a ring", "        m.first = (m.first + 1) % DEPTH\n",
+     "        s.channel[:DEPTH] = s.channel[1:DEPTH] + [0]\n"),
+    ("a fresh run leaves the tape as it is", "        a.tape[:] = [0] * len(a.tape)\n", ""),
+    ("a comment over 255 bytes is 5", "            if len(p) > 255:\n                return 2, at, None\n",
+     "            if len(p) > 255:\n                return 5, at, None\n"),
+    ("4 by kind after the payload's length", "        if kind in LEFT_OUT:\n            return 4, at, None\n",
+     "        if kind in LEFT_OUT:\n            return (4 if len(p) == 4 * (kind != FFI) else 2), at, None\n"),
+    ("an Else closes nothing and needs no bracket", "        if kind == ELSE and not open_at:\n            return Answer(11, i)\n", ""),
+    ("lanes are kept across a bracket", "            known = 1\n", "            known = known\n"),
+    ("13 names the latest bracket", "Answer(13, open_at[0])", "Answer(13, open_at[-1])"),
+    ("a sum of moves does not wrap", "        total = (was + held) & WORD\n        if total:\n            done.append((MOVE, signed(total)))\n",
+     "        total = was + held\n        if total:\n            done.append((MOVE, max(-LEAST, min(LEAST - 1, total))))\n"),
+    ("a Move of 0 vanishes", "        done.append(op)\n", "        if op != (MOVE, 0):\n            done.append(op)\n"),
+    ("a Set swapped with a Move is not joined again", "    elif last == MOVE and kind in (SET, OFFSET):\n        done.pop()\n        push(done, op)\n",
+     "    elif last == MOVE and kind in (SET, OFFSET):\n        done.pop()\n        done.append(op)\n"),
+    ("Else before End joins once", "    elif (last, kind) in ((ELSE, END), (MOVE, REFER)):\n        done.pop()\n        push(done, op)\n",
+     "    elif (last, kind) in ((ELSE, END), (MOVE, REFER)):\n        done.pop()\n        done.append(op)\n"),
+    ("main counts though it has no op", "len(bodies) + (1 if main else 0)", "len(bodies) + 1"),
+    ("main never counts", "len(bodies) + (1 if main else 0)", "len(bodies)"),
+    ("40 before 10", "    main, bodies = [], []\n",
+     "    main, bodies = [], []\n    if c.room < len(c.patch):\n        a.number, a.place = 40, 0\n        return a\n"),
+    ("40 goes by the result's length", "    if c.room < len(c.patch):\n        a.number, a.place = 40, 0\n        return a\n    done = []\n",
+     "    done = []\n"),
+]
+
+
+def planted():
+    """Each wrong reading with the model that has it."""
+    with open(os.path.join(HERE, "model01.py")) as f:
+        source = f.read()
+    for what, old, new in READINGS:
+        if source.count(old) != 1:
+            sys.exit("plant.py: the line for '%s' stands %d times in model01.py" % (what, source.count(old)))
+        module = types.ModuleType("planted")
+        exec(compile(source.replace(old, new), "planted", "exec"), module.__dict__)
+        yield what, module
+
+
+def finds(wrong, c, data):
+    """Whether the case c, which is stored as data, finds the wrong reading."""
+    try:
+        c.answer = wrong.answer(c)
+        return lists.write(c) != data
+    except Exception:
+        return True
+
+
+def main():
+    sys.setrecursionlimit(20000)
+    cases = []
+    for name in ("replay", "shapes"):
+        with open(os.path.join(HERE, "..", "lists", name + ".list"), "rb") as f:
+            cases += [(c, data) for data in lists.split(f.read()) for c in lists.read(data)]
+    missed = 0
+    for what, wrong in planted():
+        found = sum(finds(wrong, c, data) for c, data in cases)
+        print("%5d  %s" % (found, what), flush=True)
+        missed += not found
+    sys.exit(1 if missed else 0)
+
+
+if __name__ == "__main__":
+    main()

@@ -1,0 +1,594 @@
+//! The judge: reads a list of cases (docs/REPLAY.md) on standard input, runs the Rust on each, and writes one line for each:
+//! sort, expected number, verdict, kind of the refused op (or -), and how many NaNs were brought to the fixed bits.
+//!
+//! Verdicts: `agree`, `differ` with what differs after it, and, where the expected answer is a refusal at a step, what the Rust
+//! does at that op after agreeing on every step before: `went` on, `err`, `panic`, `hang`, `big` (more room than the judge has).
+//! `port` is an answer that only the port gives (files, 37, 40, the check); `utf8` and `dirty` are cases outside the domain.
+//!
+//! With --raw nothing is looked at before a step or changed after it: a hang is a hang, a NaN has the processor's bits.
+
+mod side_effects;
+mod vm;
+
+use side_effects::{Input, InputMode, Output, OutputMode};
+use std::io::{Read, Write};
+use std::panic::{catch_unwind, AssertUnwindSafe};
+use vm::{CoreOp, StandardInterpreter, StandardOp, StandardProgram, TestingDevice, VirtualMachineProgram};
+
+/// More cells than this are not asked of the Rust.
+const ROOM: usize = 8_000_000;
+
+struct Reader<'a> {
+    bytes: &'a [u8],
+    at: usize,
+}
+
+impl<'a> Reader<'a> {
+    fn take(&mut self, n: usize) -> &'a [u8] {
+        let r = &self.bytes[self.at..self.at + n];
+        self.at += n;
+        r
+    }
+    fn u8(&mut self) -> u8 {
+        self.take(1)[0]
+    }
+    fn u32(&mut self) -> usize {
+        u32::from_le_bytes(self.take(4).try_into().unwrap()) as usize
+    }
+    fn u64(&mut self) -> u64 {
+        u64::from_le_bytes(self.take(8).try_into().unwrap())
+    }
+    fn counted(&mut self) -> &'a [u8] {
+        let n = self.u32();
+        self.take(n)
+    }
+    fn sparse(&mut self, n: usize) -> Vec<i64> {
+        let mut r = vec![0; n];
+        for _ in 0..self.u32() {
+            let i = self.u32();
+            r[i] = self.u64() as i64;
+        }
+        r
+    }
+    fn slice(&mut self) -> Vec<i64> {
+        let n = self.u32();
+        self.sparse(n)
+    }
+}
+
+struct Machine {
+    position: usize,
+    pointer: usize,
+    counted: usize,
+    halted: bool,
+    lanes: usize,
+    functions: usize,
+    first: usize,
+    waiting: usize,
+    taken: usize,
+    written: usize,
+    calls: Vec<usize>,
+    refs: Vec<usize>,
+}
+
+fn machine(r: &mut Reader) -> Machine {
+    let n: Vec<usize> = (0..12).map(|_| r.u32()).collect();
+    let calls = (0..n[10].min(256)).map(|_| r.u32()).collect();
+    let refs = (0..n[11].min(256)).map(|_| r.u32()).collect();
+    Machine {
+        position: n[0],
+        pointer: n[1],
+        counted: n[2],
+        halted: n[3] != 0,
+        lanes: n[4],
+        functions: n[5],
+        first: n[6],
+        waiting: n[7],
+        taken: n[8],
+        written: n[9],
+        calls,
+        refs,
+    }
+}
+
+fn words(payload: &[u8]) -> Vec<i64> {
+    payload.chunks(8).map(|c| i64::from_le_bytes(c.try_into().unwrap())).collect()
+}
+
+fn source(mode: u8) -> Input {
+    match mode {
+        0 => Input::stdin_char(),
+        1 => Input::stdin_int(),
+        _ => Input::new(InputMode::Random, 0),
+    }
+}
+
+fn sink(mode: u8) -> Output {
+    match mode {
+        0 => Output::stdout_char(),
+        1 => Output::stdout_int(),
+        _ => Output::new(OutputMode::StderrChar, 0),
+    }
+}
+
+/// The ops of a good patch file, with their kinds; none if a comment is not UTF-8.
+fn ops(patch: &[u8]) -> Option<(Vec<StandardOp>, Vec<u16>)> {
+    let mut r = Reader { bytes: patch, at: 0 };
+    let (mut code, mut kinds) = (vec![], vec![]);
+    while r.at < patch.len() {
+        let body = r.counted();
+        let kind = u16::from_le_bytes(body[..2].try_into().unwrap());
+        let p = &body[2..];
+        let n = || u32::from_le_bytes(p[..4].try_into().unwrap()) as usize;
+        let core = |op| StandardOp::CoreOp(op);
+        code.push(match kind {
+            0 => core(CoreOp::Comment(String::from_utf8(p.to_vec()).ok()?)),
+            1 => core(CoreOp::Set(words(p))),
+            2 => core(CoreOp::Function),
+            3 => core(CoreOp::Call),
+            4 => core(CoreOp::Return),
+            5 => core(CoreOp::While),
+            6 => core(CoreOp::If),
+            7 => core(CoreOp::Else),
+            8 => core(CoreOp::End),
+            9 => core(CoreOp::Store(n())),
+            10 => core(CoreOp::Load(n())),
+            11 => core(CoreOp::Move(words(p)[0] as isize)),
+            12 => core(CoreOp::Where),
+            13 => core(CoreOp::Deref),
+            14 => core(CoreOp::Refer),
+            15 => core(CoreOp::Index(n())),
+            16 => core(CoreOp::Offset(
+                words(&p[..8])[0] as isize,
+                u32::from_le_bytes(p[8..].try_into().unwrap()) as usize,
+            )),
+            17 => core(CoreOp::BitwiseNand(n())),
+            18 => core(CoreOp::BitwiseAnd(n())),
+            19 => core(CoreOp::BitwiseOr(n())),
+            20 => core(CoreOp::BitwiseXor(n())),
+            21 => core(CoreOp::BitwiseNot(n())),
+            22 => core(CoreOp::LeftShift(n())),
+            23 => core(CoreOp::LogicalRightShift(n())),
+            24 => core(CoreOp::ArithmeticRightShift(n())),
+            25 => core(CoreOp::And(n())),
+            26 => core(CoreOp::Or(n())),
+            27 => core(CoreOp::Not(n())),
+            28 => core(CoreOp::Add(n())),
+            29 => core(CoreOp::Sub(n())),
+            30 => core(CoreOp::Mul(n())),
+            31 => core(CoreOp::Div(n())),
+            32 => core(CoreOp::Rem(n())),
+            33 => core(CoreOp::Neg(n())),
+            34 => core(CoreOp::Inc(n())),
+            35 => core(CoreOp::Dec(n())),
+            36 => core(CoreOp::Swap(n())),
+            37 => core(CoreOp::IsNonNegative(n())),
+            38 => core(CoreOp::Get(source(p[0]))),
+            39 => core(CoreOp::Put(sink(p[0]))),
+            256 => StandardOp::Set(words(p).into_iter().map(|w| f64::from_bits(w as u64)).collect()),
+            257 => StandardOp::Alloc,
+            258 => StandardOp::Free,
+            259 => StandardOp::ToInt(n()),
+            260 => StandardOp::ToFloat(n()),
+            261 => StandardOp::Add(n()),
+            262 => StandardOp::Sub(n()),
+            263 => StandardOp::Mul(n()),
+            264 => StandardOp::Div(n()),
+            265 => StandardOp::Rem(n()),
+            266 => StandardOp::Neg(n()),
+            267 => StandardOp::IsNonNegative(n()),
+            275 => StandardOp::Peek,
+            276 => StandardOp::Poke,
+            k => panic!("kind {k} in a patch that is expected to be good"),
+        });
+        kinds.push(kind);
+    }
+    Some((code, kinds))
+}
+
+fn record(out: &mut Vec<u8>, kind: u16, payload: &[u8]) {
+    out.extend((payload.len() as u32 + 2).to_le_bytes());
+    out.extend(kind.to_le_bytes());
+    out.extend(payload);
+}
+
+/// The patch file of a list of ops.
+fn file(code: &[StandardOp]) -> Vec<u8> {
+    let mut out = vec![];
+    for op in code {
+        let mut lanes = |kind, n: &usize| record(&mut out, kind, &(*n as u32).to_le_bytes());
+        match op {
+            StandardOp::CoreOp(op) => match op {
+                CoreOp::Comment(s) => record(&mut out, 0, s.as_bytes()),
+                CoreOp::Set(v) => record(&mut out, 1, &v.iter().flat_map(|w| w.to_le_bytes()).collect::<Vec<u8>>()),
+                CoreOp::Function => record(&mut out, 2, &[]),
+                CoreOp::Call => record(&mut out, 3, &[]),
+                CoreOp::Return => record(&mut out, 4, &[]),
+                CoreOp::While => record(&mut out, 5, &[]),
+                CoreOp::If => record(&mut out, 6, &[]),
+                CoreOp::Else => record(&mut out, 7, &[]),
+                CoreOp::End => record(&mut out, 8, &[]),
+                CoreOp::Store(n) => lanes(9, n),
+                CoreOp::Load(n) => lanes(10, n),
+                CoreOp::Move(n) => record(&mut out, 11, &(*n as i64).to_le_bytes()),
+                CoreOp::Where => record(&mut out, 12, &[]),
+                CoreOp::Deref => record(&mut out, 13, &[]),
+                CoreOp::Refer => record(&mut out, 14, &[]),
+                CoreOp::Index(n) => lanes(15, n),
+                CoreOp::Offset(v, n) => {
+                    let mut p = (*v as i64).to_le_bytes().to_vec();
+                    p.extend((*n as u32).to_le_bytes());
+                    record(&mut out, 16, &p)
+                }
+                CoreOp::BitwiseNand(n) => lanes(17, n),
+                CoreOp::BitwiseAnd(n) => lanes(18, n),
+                CoreOp::BitwiseOr(n) => lanes(19, n),
+                CoreOp::BitwiseXor(n) => lanes(20, n),
+                CoreOp::BitwiseNot(n) => lanes(21, n),
+                CoreOp::LeftShift(n) => lanes(22, n),
+                CoreOp::LogicalRightShift(n) => lanes(23, n),
+                CoreOp::ArithmeticRightShift(n) => lanes(24, n),
+                CoreOp::And(n) => lanes(25, n),
+                CoreOp::Or(n) => lanes(26, n),
+                CoreOp::Not(n) => lanes(27, n),
+                CoreOp::Add(n) => lanes(28, n),
+                CoreOp::Sub(n) => lanes(29, n),
+                CoreOp::Mul(n) => lanes(30, n),
+                CoreOp::Div(n) => lanes(31, n),
+                CoreOp::Rem(n) => lanes(32, n),
+                CoreOp::Neg(n) => lanes(33, n),
+                CoreOp::Inc(n) => lanes(34, n),
+                CoreOp::Dec(n) => lanes(35, n),
+                CoreOp::Swap(n) => lanes(36, n),
+                CoreOp::IsNonNegative(n) => lanes(37, n),
+                CoreOp::Get(i) => {
+                    let mode: u16 = (0..=3).find(|m| source(*m as u8).mode == i.mode).unwrap();
+                    record(&mut out, 38, &if mode == 2 { 3 } else { mode }.to_le_bytes())
+                }
+                CoreOp::Put(o) => {
+                    let mode: u16 = (0..=3).find(|m| sink(*m as u8).mode == o.mode).unwrap();
+                    record(&mut out, 39, &if mode == 2 { 3 } else { mode }.to_le_bytes())
+                }
+            },
+            StandardOp::Set(v) => {
+                record(&mut out, 256, &v.iter().flat_map(|x| x.to_bits().to_le_bytes()).collect::<Vec<u8>>())
+            }
+            StandardOp::Alloc => record(&mut out, 257, &[]),
+            StandardOp::Free => record(&mut out, 258, &[]),
+            StandardOp::ToInt(n) => lanes(259, n),
+            StandardOp::ToFloat(n) => lanes(260, n),
+            StandardOp::Add(n) => lanes(261, n),
+            StandardOp::Sub(n) => lanes(262, n),
+            StandardOp::Mul(n) => lanes(263, n),
+            StandardOp::Div(n) => lanes(264, n),
+            StandardOp::Rem(n) => lanes(265, n),
+            StandardOp::Neg(n) => lanes(266, n),
+            StandardOp::IsNonNegative(n) => lanes(267, n),
+            StandardOp::Peek => record(&mut out, 275, &[]),
+            StandardOp::Poke => record(&mut out, 276, &[]),
+            _ => panic!("an op that no patch holds"),
+        }
+    }
+    out
+}
+
+/// Whether a search from the op at i ends, if it also stops at an Else of its own or not.
+fn has_partner(kinds: &[u16], i: usize, at_else: bool) -> bool {
+    let mut depth = 1;
+    for k in &kinds[i + 1..] {
+        match k {
+            2 | 5 | 6 => depth += 1,
+            8 => depth -= 1,
+            7 if at_else && depth == 1 => return true,
+            _ => {}
+        }
+        if depth == 0 {
+            return true;
+        }
+    }
+    false
+}
+
+type Vm = StandardInterpreter<TestingDevice>;
+
+/// One step, looked at first unless raw: a search without an end and a tape beyond the judge's room are not tried.
+fn step(vm: &mut Vm, code: &StandardProgram, kinds: &[u16], raw: bool, nans: &mut usize) -> &'static str {
+    let p = vm.parts();
+    let (i, at, len) = (*p.i, *p.pointer, p.cells.len());
+    let lane = p.register.first().copied();
+    if !raw {
+        let search = match kinds[i] {
+            2 | 7 => true,
+            5 | 6 => lane == Some(0),
+            _ => false,
+        };
+        if search && !has_partner(kinds, i, kinds[i] == 6) {
+            return "hang";
+        }
+        let reach = match &code.0[i] {
+            StandardOp::CoreOp(CoreOp::Load(n) | CoreOp::Store(n)) => at.saturating_add(*n),
+            StandardOp::CoreOp(CoreOp::Deref) => at,
+            // from 2^60 cells on the Rust panics by itself
+            StandardOp::Alloc => match lane {
+                Some(n) if (n as u64) < 1 << 60 => len + n as usize,
+                _ => 0,
+            },
+            _ => 0,
+        };
+        if reach > ROOM {
+            return "big";
+        }
+    }
+    match catch_unwind(AssertUnwindSafe(|| vm.one_step(code))) {
+        Err(_) => return "panic",
+        Ok(Err(_)) => return "err",
+        Ok(Ok(())) => {}
+    }
+    if raw {
+        return "went";
+    }
+    // the NaN rule: what the processor gives is compared as a NaN
+    if let StandardOp::Add(n) | StandardOp::Sub(n) | StandardOp::Mul(n) | StandardOp::Div(n) | StandardOp::Rem(n) = &code.0[i] {
+        for lane in &mut vm.parts().register[..*n] {
+            if f64::from_bits(*lane as u64).is_nan() && *lane != 0x7FF8000000000000 {
+                *lane = 0x7FF8000000000000;
+                *nans += 1;
+            }
+        }
+    }
+    "went"
+}
+
+fn run(r: &mut Reader, fresh: bool, raw: bool) -> (usize, String, String, usize) {
+    let patch = r.counted();
+    let budget = r.u32();
+    let inputs: Vec<i64> = (0..r.u32()).map(|_| r.u64() as i64).collect();
+    let tape = r.slice();
+    let register = r.slice();
+    let table = r.slice();
+    let channel = r.slice();
+    let outputs = r.slice();
+    let start = if fresh { None } else { Some(machine(r)) };
+    let number = r.u32();
+    let steps = r.u32();
+    let place = r.u32();
+    let m = machine(r);
+    let tape2 = r.sparse(tape.len());
+    let register2 = r.sparse(register.len());
+    let table2 = r.sparse(table.len());
+    let channel2 = r.sparse(channel.len());
+    let outputs2 = r.sparse(outputs.len());
+    let mut nans = 0;
+    let no_kind = "-".to_string();
+    if (1..10).contains(&number) || number == 37 {
+        return (number, "port".into(), no_kind, 0);
+    }
+    let Some((code, kinds)) = ops(patch) else {
+        return (number, "utf8".into(), no_kind, 0);
+    };
+    let code = StandardProgram(code);
+    let mut vm = StandardInterpreter::new(TestingDevice::new_raw(inputs.clone()));
+    let mut written = 0;
+    if let Some(s) = start {
+        if tape.iter().skip(s.counted).any(|c| *c != 0) {
+            return (number, "dirty".into(), no_kind, 0);
+        }
+        if s.counted > ROOM {
+            return (number, "big".into(), no_kind, 0);
+        }
+        written = s.written;
+        let p = vm.parts();
+        let mut cells = tape[..tape.len().min(s.counted)].to_vec();
+        cells.resize(s.counted, 0);
+        *p.cells = cells;
+        *p.pointer = s.pointer;
+        *p.register = register[..s.lanes].to_vec();
+        *p.functions = table[..s.functions].iter().map(|f| *f as usize).collect();
+        *p.calls = s.calls;
+        *p.refs = s.refs;
+        *p.i = s.position;
+        *p.done = s.halted;
+        p.device.input = inputs[s.taken..].to_vec().into();
+        p.device.ffi_channel = (0..s.waiting).map(|k| channel[(s.first + k) % 256]).collect();
+        p.device.output = outputs[..s.written].iter().map(|v| (*v, Output::stdout_char())).collect();
+    }
+    let over = |vm: &mut Vm| {
+        let p = vm.parts();
+        *p.done || *p.i >= kinds.len()
+    };
+    let differ = |what: String| (number, format!("differ:{what}"), "-".to_string(), 0);
+    let mut made = 0;
+    while made < steps && !over(&mut vm) {
+        match step(&mut vm, &code, &kinds, raw, &mut nans) {
+            "went" => made += 1,
+            "big" => return (number, "big".into(), no_kind, nans),
+            other => return differ(format!("{other}-at-step-{made}")),
+        }
+    }
+    if made != steps {
+        return differ(format!("over-after-{made}-steps"));
+    }
+    {
+        let p = vm.parts();
+        if *p.i != m.position || place != m.position {
+            return differ(format!("position:{}", p.i));
+        }
+        if *p.pointer != m.pointer {
+            return differ(format!("pointer:{}", p.pointer));
+        }
+        if p.cells.len() != m.counted {
+            return differ(format!("length:{}", p.cells.len()));
+        }
+        if *p.done != m.halted {
+            return differ(format!("halted:{}", p.done));
+        }
+        if p.register[..] != register2[..m.lanes] {
+            return differ(format!("register:{:?}", &p.register[..p.register.len().min(8)]).replace(' ', ""));
+        }
+        for (i, c) in p.cells.iter().enumerate() {
+            if *c != tape2.get(i).copied().unwrap_or(0) {
+                return differ(format!("cell:{i}:{c}"));
+            }
+        }
+        if p.functions.iter().map(|f| *f as i64).collect::<Vec<i64>>() != table2[..m.functions] {
+            return differ(format!("functions:{:?}", p.functions).replace(' ', ""));
+        }
+        if *p.calls != m.calls {
+            return differ(format!("calls:{:?}", p.calls).replace(' ', ""));
+        }
+        if *p.refs != m.refs {
+            return differ(format!("refs:{:?}", p.refs).replace(' ', ""));
+        }
+        let waiting: Vec<i64> = (0..m.waiting).map(|k| channel2[(m.first + k) % 256]).collect();
+        if p.device.ffi_channel.iter().copied().collect::<Vec<i64>>() != waiting {
+            return differ(format!("channel:{:?}", p.device.ffi_channel).replace(' ', ""));
+        }
+        if p.device.input.len() != inputs.len() - m.taken {
+            return differ(format!("input:{}", p.device.input.len()));
+        }
+        if p.device.output_vals() != outputs2[..m.written] {
+            return differ(format!("output:{:?}", p.device.output_vals()).replace(' ', ""));
+        }
+        if written > m.written {
+            return differ("outputs-lost".into());
+        }
+    }
+    let ended = over(&mut vm);
+    match number {
+        0 if ended => (number, "agree".into(), no_kind, nans),
+        0 => differ("not-over".into()),
+        50 if !ended && steps == budget => (number, "agree".into(), no_kind, nans),
+        50 => differ("over".into()),
+        _ if ended => differ("over".into()),
+        _ => {
+            let kind = kinds[m.position].to_string();
+            let what = step(&mut vm, &code, &kinds, raw, &mut nans);
+            (number, what.into(), kind, nans)
+        }
+    }
+}
+
+fn join(r: &mut Reader) -> (usize, String, String, usize) {
+    let patch = r.counted();
+    r.u32();
+    r.u8();
+    let number = r.u32();
+    let place = r.u32();
+    let bytes = r.counted();
+    let verdict = if number != 0 {
+        "port".to_string()
+    } else if let Some((code, _)) = ops(patch) {
+        let mut joined = StandardProgram(vec![]);
+        for op in code {
+            match op {
+                StandardOp::CoreOp(op) => joined.op(op),
+                op => joined.std_op(op).unwrap(),
+            }
+        }
+        if joined.0.len() != place {
+            format!("differ:ops:{}", joined.0.len())
+        } else if file(&joined.0) != bytes {
+            format!("differ:bytes:{}", format!("{:?}", joined.0).replace(' ', ""))
+        } else {
+            "agree".into()
+        }
+    } else {
+        "utf8".into()
+    };
+    (number, verdict, "-".into(), 0)
+}
+
+fn flatten(r: &mut Reader) -> (usize, String, String, usize) {
+    let patch = r.counted();
+    r.u32();
+    r.u8();
+    r.u32();
+    let number = r.u32();
+    let place = r.u32();
+    let bytes = r.counted();
+    let bodies: Vec<[usize; 3]> = (0..r.u32()).map(|_| [r.u32(), r.u32(), r.u32()]).collect();
+    let mut kind = "-".to_string();
+    let verdict = if number != 0 && number != 10 {
+        "port".to_string()
+    } else if let Some((code, kinds)) = ops(patch) {
+        let program = StandardProgram(code);
+        match catch_unwind(AssertUnwindSafe(|| (program.clone().flatten(), program.get_functions()))) {
+            Err(_) if number == 10 => {
+                kind = kinds[place].to_string();
+                "panic".into()
+            }
+            Err(_) => "differ:panic".into(),
+            Ok(_) if number == 10 => "differ:no-panic".into(),
+            Ok((flat, functions)) => {
+                let mut numbers: Vec<i32> = functions.keys().copied().collect();
+                numbers.sort();
+                let mut first = 0;
+                let mut found = vec![];
+                for n in numbers {
+                    let body = &functions[&n];
+                    found.push([n as usize, first, body.len()]);
+                    if flat.0[first..first + body.len()] != body[..] && !has_nan(body) {
+                        return (number, "differ:body".into(), kind, 0);
+                    }
+                    first += body.len();
+                }
+                if flat.0.len() != place {
+                    format!("differ:ops:{}", flat.0.len())
+                } else if file(&flat.0) != bytes {
+                    format!("differ:bytes:{}", format!("{:?}", flat.0).replace(' ', ""))
+                } else if found != bodies {
+                    format!("differ:bodies:{found:?}").replace(' ', "")
+                } else {
+                    "agree".into()
+                }
+            }
+        }
+    } else {
+        "utf8".into()
+    };
+    (number, verdict, kind, 0)
+}
+
+/// An op that holds a NaN is not equal to itself.
+fn has_nan(body: &[StandardOp]) -> bool {
+    body.iter().any(|op| matches!(op, StandardOp::Set(v) if v.iter().any(|x| x.is_nan())))
+}
+
+fn judge() {
+    let raw = std::env::args().any(|a| a == "--raw");
+    let mut bytes = vec![];
+    std::io::stdin().lock().read_to_end(&mut bytes).unwrap();
+    let mut list = Reader { bytes: &bytes, at: 0 };
+    let mut out = std::io::BufWriter::new(std::io::stdout().lock());
+    while list.at < bytes.len() {
+        let case = list.counted();
+        let mut r = Reader { bytes: case, at: 0 };
+        let sort = r.u8();
+        let (number, verdict, kind, nans) = match sort {
+            0 => run(&mut r, false, raw),
+            1 => run(&mut r, true, raw),
+            2 => join(&mut r),
+            3 => flatten(&mut r),
+            4 => {
+                r.counted();
+                let number = r.u32();
+                r.u32();
+                (number, "port".into(), "-".into(), 0)
+            }
+            s => panic!("no sort {s}"),
+        };
+        assert!(verdict.starts_with("differ") || r.at == case.len(), "a case of sort {sort} has bytes left over");
+        writeln!(out, "{sort} {number} {verdict} {kind} {nans}").unwrap();
+    }
+}
+
+fn main() {
+    std::panic::set_hook(Box::new(|info| {
+        // the judge's own faults are told; the machine's panics are answers
+        if info.location().map_or(false, |l| l.file().ends_with("main.rs")) {
+            eprintln!("{info}");
+        }
+    }));
+    // `op` calls itself, once for each op at most
+    std::thread::Builder::new().stack_size(256 << 20).spawn(judge).unwrap().join().unwrap();
+}
