@@ -89,3 +89,15 @@ pub fn after_slice(case: &[u8], at: usize, most: usize) -> usize {
     }
     after_contents(case, after(case, at, 4))
 }
+
+pub fn byte(case: &[u8], at: usize) -> u8 {
+    if case.len() <= at {
+        return 0;
+    }
+    case[at]
+}
+
+// The place after a count and so many bytes.
+pub fn after_bytes(case: &[u8], at: usize) -> usize {
+    after(case, after(case, at, 4), word(case, at))
+}

@@ -6,6 +6,7 @@ mod found; // what is found of a case
 mod state; // a machine
 mod slices; // what is expected of lent storage
 mod run; // runs, fresh and from a state
+mod shape; // joins and flattenings
 use crate::found::Found;
 use crate::found::agreeing;
 use crate::found::is_case;
@@ -32,6 +33,18 @@ fn check(tell: Tell, file: &[u8], case: &[u8]) -> Found {
     Found::Agrees
 }
 
+// A case by its sort.
+fn by_sort(tell: Tell, sort: u8, file: &[u8], case: &[u8]) -> Found {
+    match sort {
+        0 => run::replay(tell, sort, file, case),
+        1 => run::replay(tell, sort, file, case),
+        2 => shape::replay_join(tell, file, case),
+        3 => shape::replay_flatten(tell, file, case),
+        4 => check(tell, file, case),
+        _ => Found::Damaged,
+    }
+}
+
 // Reads the patch, and what is given and expected beside it, and works the case.
 fn work(tell: Tell, sort: u8, file: &mut [u8], case: &mut [u8]) -> Found {
     if io::read_full(0, file) < file.len() {
@@ -40,13 +53,7 @@ fn work(tell: Tell, sort: u8, file: &mut [u8], case: &mut [u8]) -> Found {
     if io::read_full(0, case) < case.len() {
         return Found::Damaged;
     }
-    if sort == 4 {
-        return check(tell, file, case);
-    }
-    if sort < 2 {
-        return run::replay(tell, sort, file, case);
-    }
-    Found::Damaged
+    by_sort(tell, sort, file, case)
 }
 
 // A case of this sort, with so many bytes of a patch and so many after them.

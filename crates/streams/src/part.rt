@@ -27,3 +27,12 @@ pub fn of_bytes(n: usize, values: &[u8]) -> usize
     }
     n
 }
+
+pub fn of_numbers(n: usize, values: &[u32]) -> usize
+    ensures { λ r. ⌜ Counts r (now (values .entry)) ⌝ }
+{
+    if values.len() < n {
+        return values.len();
+    }
+    n
+}
