@@ -1,9 +1,11 @@
 // Runs cases on the real code and prints each answer: document 01's own, and others that its rules decide. The cases and the lines that they
 // must give are in tools/cases.txt; tools/cases.py makes this program's standard input and output of it.
 //
-// A case is a head of 16 bytes, then its name, its patch and its input values. The head: what is done (0: a run), the name's length, and by two
-// bytes each the patch's length, the number of input values, of cells and of outputs that there is room for, and of lanes that the register has
-// room for; the budget by four.
+// A case is a head of 16 bytes, then its name, its patch and its input values. The head: what is done (0 the check and a run, 1 joining, 2
+// flattening), the name's length, and by two bytes each the patch's length, the number of input values, of cells, of outputs or of bytes and bodies
+// that there is room for, and of lanes that the register has room for; the budget by four.
+use flattening::answer::Flattened;
+use joining::join::Joined;
 use machine::machine::Machine;
 use machine::machine::number_of;
 use machine::machine::place_of;
@@ -117,11 +119,93 @@ fn show_run(head: &[u8; 16], file: &[u8]) {
     show_out(&output, place.written);
 }
 
+fn show_answer(word: &[u8], n: usize, place: usize) {
+    io::write_all(1, word);
+    number(n);
+    number(place);
+}
+
+fn show_hex(b: u8) {
+    io::print_hex(1, b as u64, 2);
+}
+
+// The n bytes that were written.
+fn show_each(out: &[u8; 64], n: usize) {
+    let mut i: usize = 0;
+    while i < n {
+        if 64 <= i {
+            return;
+        }
+        show_hex(out[i]);
+        i += 1;
+    }
+}
+
+fn show_bytes(out: &[u8; 64], n: usize) {
+    io::write_all(1, b" bytes");
+    if 0 < n {
+        io::write_all(1, b" ");
+        show_each(out, n);
+    }
+}
+
+fn show_join(head: &[u8; 16], file: &[u8]) {
+    let mut out = [0u8; 64];
+    let room = of_bytes(u16_at(head, 8), &out);
+    match joining::join::join(file, &mut out[..room]) {
+        Joined::BadFile(n, place) => show_answer(b" join", n, place),
+        Joined::NoRoom => show_answer(b" join", 40, 0),
+        Joined::Written(ops, bytes) => {
+            show_answer(b" join", 0, ops);
+            show_bytes(&out, bytes);
+        }
+    }
+}
+
+fn show_body(body: u32, first: u32, count: u32) {
+    io::write_all(1, b" body");
+    number(body as usize);
+    number(first as usize);
+    number(count as usize);
+}
+
+// The number, the first op and the op count of each of n bodies.
+fn show_bodies(numbers: &[u32; 64], firsts: &[u32; 64], counts: &[u32; 64], n: usize) {
+    let mut i: usize = 0;
+    while i < n {
+        if 64 <= i {
+            return;
+        }
+        show_body(numbers[i], firsts[i], counts[i]);
+        i += 1;
+    }
+}
+
+fn show_flatten(head: &[u8; 16], file: &[u8]) {
+    let mut out = [0u8; 64];
+    let mut numbers = [0u32; 64];
+    let mut firsts = [0u32; 64];
+    let mut counts = [0u32; 64];
+    let room = of_bytes(u16_at(head, 8), &out);
+    let r = flattening::flatten::flatten(file, &mut out[..room], &mut numbers, &mut firsts, &mut counts);
+    show_answer(b" flatten", flattening::answer::number_of(r), flattening::answer::place_of(r));
+    if let Flattened::Written { ops: _, bytes, bodies } = r {
+        show_bodies(&numbers, &firsts, &counts, bodies);
+        show_bytes(&out, bytes);
+    }
+}
+
 // Reads the patch, and works it.
 fn work(head: &[u8; 16], file: &mut [u8]) {
     io::read_full(0, file);
-    show_check(file);
-    show_run(head, file);
+    match head[0] {
+        1 => show_join(head, file),
+        2 => show_flatten(head, file),
+        _ => {
+            show_check(file);
+            show_run(head, file);
+        }
+    }
     end_line();
 }
 

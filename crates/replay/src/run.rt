@@ -156,9 +156,12 @@ fn with_table(
 }
 
 // The table of functions as it is lent.
-fn narrow(from: &[u64; 258], to: &mut [u16; 258]) {
+fn narrow(from: &[u64], to: &mut [u16]) {
     let mut i: usize = 0;
-    while i < 258 {
+    while i < from.len() {
+        if to.len() <= i {
+            return;
+        }
         to[i] = (from[i] % 65536) as u16;
         i += 1;
     }

@@ -58,10 +58,10 @@ fn wide(x: u16) -> u64 {
     x as u64
 }
 
-fn widen(from: &[u16], to: &mut [u64; 258]) {
+fn widen(from: &[u16], to: &mut [u64]) {
     let mut i: usize = 0;
     while i < from.len() {
-        if 258 <= i {
+        if to.len() <= i {
             return;
         }
         to[i] = wide(from[i]);

@@ -5,10 +5,10 @@ use Rattle.replay.proofs.main.Statement.{statement}
 use Rattle.replay.proofs.main.Tie as tie
 
 abbrev Inv-loop : tie.InvT-loop
-Inv-loop n₀ agree₀ n agree = (agree ≤ n) × (n ≤ 1000000000)
+Inv-loop file₀ case₀ n₀ agree₀ file case n agree = (agree ≤ n) × (n ≤ 1000000000)
 
 abbrev μ-loop : tie.MeasureT-loop
-μ-loop n₀ agree₀ n agree = 1000000000 - n
+μ-loop file₀ case₀ n₀ agree₀ file case n agree = 1000000000 - n
 
 pub main-spec : {M : Type 1} → statement M
 main-spec =

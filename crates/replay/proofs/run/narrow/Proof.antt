@@ -1,14 +1,16 @@
 -- `replay::run::narrow` is safe and ends: the measure is the entries that are left. Assumes nothing.
 use borrow.Author.Needs.{needs}
+use mathlib.Core.Path.{_≡_}
 use Prim.Native.Nat.{_-_, _≤_}
+use lib.ListN.{length}
 use Rattle.replay.proofs.run.narrow.Statement.{statement}
 use Rattle.replay.proofs.run.narrow.Tie as tie
 
 abbrev Inv-loop : tie.InvT-loop
-Inv-loop from to₀ i₀ to i = i ≤ 258
+Inv-loop from to₀ i₀ to i = (length to ≡ length to₀) × (i ≤ length from)
 
 abbrev μ-loop : tie.MeasureT-loop
-μ-loop from to₀ i₀ to i = 258 - i
+μ-loop from to₀ i₀ to i = length from - i
 
 pub narrow-spec : {M : Type 1} → statement M
 narrow-spec =
@@ -16,6 +18,9 @@ narrow-spec =
     (tie.spec
     Inv-loop
     μ-loop
+    (λ c. search needs)
+    (λ c. search needs)
+    (λ c. search needs)
     (λ c. search needs)
     (λ c. search needs)
     (λ c. search needs)

@@ -1,12 +1,13 @@
 -- `replay::slices::widen` is safe and ends: the measure is the entries that are left. Assumes nothing.
 use borrow.Author.Needs.{needs}
+use mathlib.Core.Path.{_≡_}
 use Prim.Native.Nat.{_-_, _≤_}
 use lib.ListN.{length}
 use Rattle.replay.proofs.slices.widen.Statement.{statement}
 use Rattle.replay.proofs.slices.widen.Tie as tie
 
 abbrev Inv-loop : tie.InvT-loop
-Inv-loop from to₀ i₀ to i = i ≤ length from
+Inv-loop from to₀ i₀ to i = (length to ≡ length to₀) × (i ≤ length from)
 
 abbrev μ-loop : tie.MeasureT-loop
 μ-loop from to₀ i₀ to i = length from - i
@@ -21,7 +22,9 @@ widen-spec =
     (λ c. search needs)
     (λ c. search needs)
     (λ c. search needs)
+    (λ c. search needs)
     (λ c κs. search needs)
+    (λ c. search needs)
     (λ c. search needs)
     (λ c. search needs)
     (λ c. search needs)
