@@ -1,26 +1,28 @@
--- Flattening loses nothing: whatever is counted of the ops, the flattened patch has as many. Assumes nothing.
-use Prim.Native.Nat.{ℕ, zero, suc, _+_, _<_}
+-- Flattening loses nothing: whatever is counted of the ops, the flattened patch has as much, be it ops, marks or bytes. Assumes nothing.
+use Prim.Native.Nat.{ℕ, zero, suc, _+_, _-_, _≤_, _<_}
+use native.Mathlib.Nat.{not-suc-le-zero}
 use native.Mathlib.Omega.{arith}
-use borrow.Author.Tests.{eqb-true, eqb-false, eq-eqb, ne-eqb}
+use borrow.Author.Tests.{eqb-true, eqb-false, ltb-true, ltb-false, eq-eqb, ne-eqb}
 use mathlib.Core.Path.{_≡_, refl, ap, sym, _∙_, subst}
 use mathlib.Core.Bool.{Bool, true, false, cond, _||_}
 use mathlib.Core.List.{List, [], _∷_, _++_}
 use lib.Dec.{eqb, ltb}
-use lib.ListN.{length}
+use lib.ListN.{length, length-append}
 use Rattle.ops.specs.Op.{Op}
+use Rattle.ops.specs.Write.{encode, encodeAll, markIn, marksIn}
 use Rattle.machine_model.specs.Step.{enter}
 use Rattle.machine_model.specs.Formed.{Each, Rising}
-use Rattle.flattening.specs.Flatten.{Note, notes, Numbered, named, has, fresh, number, body, gathered, others, laid, flatten, Body}
+use Rattle.flattening.specs.Flatten.{Note, notes, Numbered, named, has, fresh, number, body, gathered, others, laid, flatten, Flat, Body}
 use Rattle.flattening.specs.Flatten.Note.{enters, opens, closes, stays}
 use Rattle.flattening.specs.Flatten.Numbered.{stray, numbered}
-use Rattle.flattening.specs.Flatten.Flat.{flat}
+use Rattle.flattening.specs.Flatten.Flat.{loose, flat}
 use Rattle.machine_model.proofs.Scans.{clash}
 use Rattle.machine_model.proofs.Table.{rising-enter}
 
--- how many ops pass a test
-unfoldable pub tally : (Op → Bool) → List Op → ℕ
+-- the sum of a number that each op has
+unfoldable pub tally : (Op → ℕ) → List Op → ℕ
 tally f [] = 0
-tally f (o ∷ os) = cond (f o) 1 0 + tally f os
+tally f (o ∷ os) = f o + tally f os
 
 -- ---- numbers that were seen stay seen
 
@@ -36,14 +38,14 @@ or-left : (a b : Bool) → a ≡ true → (a || b) ≡ true
 or-left true b e = refl
 or-left false b e = clash (cc)
 
-or-either : (a b : Bool) (P : Type 0) → (a || b) ≡ true → (a ≡ true → P) → (b ≡ true → P) → P
+pub or-either : (a b : Bool) (P : Type 0) → (a || b) ≡ true → (a ≡ true → P) → (b ≡ true → P) → P
 or-either true b P e f g = f refl
 or-either false b P e f g = g e
 
 same-has : (c : ℕ) (xs : List ℕ) → has c (c ∷ xs) ≡ true
 same-has c xs = or-left (eqb c c) _ (eq-eqb c c refl)
 
-has-self : (c : ℕ) (xs : List ℕ) → has c (enter c xs) ≡ true
+pub has-self : (c : ℕ) (xs : List ℕ) → has c (enter c xs) ≡ true
 unfolding enter
 has-self c [] = same-has c []
 has-self c (x ∷ xs) =
@@ -54,7 +56,7 @@ has-self c (x ∷ xs) =
     by true e h = or-left (eqb c x) _ e
     by false e h = or-true (eqb c x) _ h
 
-has-more : (p c : ℕ) (xs : List ℕ) → has c xs ≡ true → has c (enter p xs) ≡ true
+pub has-more : (p c : ℕ) (xs : List ℕ) → has c xs ≡ true → has c (enter p xs) ≡ true
 unfolding enter
 has-more p c [] e = clash (cc)
 has-more p c (x ∷ xs) e =
@@ -64,7 +66,7 @@ has-more p c (x ∷ xs) e =
 
 -- ---- what the numbering gives
 
-data Ok (seen : List ℕ) (ns : List Note) : Numbered → Type 0 where
+pub data Ok (seen : List ℕ) (ns : List Note) : Numbered → Type 0 where
   bad : {p : ℕ} → Ok seen ns (stray p)
   good : (cs seen′ : List ℕ) → length cs ≡ length ns → ((c : ℕ) → has c seen ≡ true → has c seen′ ≡ true) → Rising seen′
       → Each (λ c. has c seen′ ≡ true) cs → Ok seen ns (numbered cs seen′)
@@ -74,7 +76,7 @@ named-ok b seen n ns r bad = bad
 named-ok b seen n ns r (good cs seen′ l s r′ e) =
     good (b ∷ cs) seen′ (ap suc l) (λ c h. s c (has-more b c seen h)) r′ (s b (has-self b seen), e)
 
-number-ok : (ns : List Note) (p b m : ℕ) (st : List (ℕ × ℕ)) (seen : List ℕ) → Rising seen → Ok seen ns (number p b m st seen ns)
+pub number-ok : (ns : List Note) (p b m : ℕ) (st : List (ℕ × ℕ)) (seen : List ℕ) → Rising seen → Ok seen ns (number p b m st seen ns)
 unfolding number
 number-ok [] p b m st seen r = good [] seen refl (λ c h. h) r tt
 number-ok (enters ∷ ns) p b m st seen r =
@@ -87,7 +89,7 @@ number-ok (stays ∷ ns) p b m st seen r = named-ok b seen stays ns _ (number-ok
 
 -- ---- the bodies together have each op once
 
-module _ (f : Op → Bool) where
+module _ (f : Op → ℕ) where
   tally-append : (a b : List Op) → tally f (a ++ b) ≡ tally f a + tally f b
   unfolding tally
   tally-append [] b = omega arith
@@ -101,16 +103,16 @@ module _ (f : Op → Bool) where
     missed (b ∷ bs) e = rw (ne-eqb b c (λ z. omega (arith, e .0)), missed bs (e .1))
 
     -- or it is, once
-    met : (bs : List ℕ) → Rising bs → has c bs ≡ true → tally f (gathered bs (c ∷ cs) (o ∷ os)) ≡ cond (f o) 1 0 + tally f (gathered bs cs os)
+    met : (bs : List ℕ) → Rising bs → has c bs ≡ true → tally f (gathered bs (c ∷ cs) (o ∷ os)) ≡ f o + tally f (gathered bs cs os)
     unfolding gathered body tally
     met [] r h = clash (cc)
     met (b ∷ bs) r h = by (λ x. met bs (r .1) x) (eqb b c) refl
       where
-        by : (has c bs ≡ true → tally f (gathered bs (c ∷ cs) (o ∷ os)) ≡ cond (f o) 1 0 + tally f (gathered bs cs os)) → (x : Bool) → eqb b c ≡ x
-            → tally f (cond x (o ∷ body b cs os) (body b cs os) ++ gathered bs (c ∷ cs) (o ∷ os)) ≡ cond (f o) 1 0 + tally f (body b cs os ++ gathered bs cs os)
+        by : (has c bs ≡ true → tally f (gathered bs (c ∷ cs) (o ∷ os)) ≡ f o + tally f (gathered bs cs os)) → (x : Bool) → eqb b c ≡ x
+            → tally f (cond x (o ∷ body b cs os) (body b cs os) ++ gathered bs (c ∷ cs) (o ∷ os)) ≡ f o + tally f (body b cs os ++ gathered bs cs os)
         by ih true e =
             let q : b ≡ c = eqb-true b c e in
-            ap (λ (l : List Op). cond (f o) 1 0 + tally f (body b cs os ++ l)) (missed bs (subst (λ (y : ℕ). Each (λ z. y < z) bs) q (r .0)))
+            ap (λ (l : List Op). f o + tally f (body b cs os ++ l)) (missed bs (subst (λ (y : ℕ). Each (λ z. y < z) bs) q (r .0)))
         by ih false e =
             let n : b ≡ c → ⊥ = eqb-false b c e in
             or-either (eqb c b) (has c bs) _ h (λ x. absurd (n (sym (eqb-true c b x))))
@@ -126,7 +128,7 @@ module _ (f : Op → Bool) where
   gathered-all bs [] [] r e l = ap (tally f) (empty bs)
   gathered-all bs [] (o ∷ os) r e l = absurd (omega arith)
   gathered-all bs (c ∷ cs) [] r e l = absurd (omega arith)
-  gathered-all bs (c ∷ cs) (o ∷ os) r e l = met c cs o os bs r (e .0) ∙ ap (λ (n : ℕ). cond (f o) 1 0 + n) (gathered-all bs cs os r (e .1) (omega arith))
+  gathered-all bs (c ∷ cs) (o ∷ os) r e l = met c cs o os bs r (e .0) ∙ ap (λ (n : ℕ). f o + n) (gathered-all bs cs os r (e .1) (omega arith))
 
 -- main comes first in the list that has all numbers
 above : (a : ℕ) (xs : List ℕ) → Each (λ y. a < y) xs → Each (λ y. 0 < y) xs
@@ -147,12 +149,12 @@ each-has : (xs ys cs : List ℕ) → ((c : ℕ) → has c xs ≡ true → has c 
 each-has xs ys [] s e = tt
 each-has xs ys (c ∷ cs) s e = (s c (e .0), each-has xs ys cs s (e .1))
 
-length-notes : (os : List Op) → length (notes os) ≡ length os
+pub length-notes : (os : List Op) → length (notes os) ≡ length os
 length-notes [] = refl
 length-notes (o ∷ os) = ap suc (length-notes os)
 
--- every op appears once: whatever is counted, the flattened patch has as many
-pub nothing-lost : (f : Op → Bool) (os fs : List Op) (bs : List Body) → flatten os ≡ flat fs bs → tally f fs ≡ tally f os
+-- whatever is counted, the flattened patch has as much
+pub nothing-lost : (f : Op → ℕ) (os fs : List Op) (bs : List Body) → flatten os ≡ flat fs bs → tally f fs ≡ tally f os
 unfolding flatten gathered
 nothing-lost f os fs bs e = by (number 0 0 0 [] [] (notes os)) (number-ok (notes os) 0 0 0 [] [] tt) e
   where
@@ -163,3 +165,33 @@ nothing-lost f os fs bs e = by (number 0 0 0 [] [] (notes os)) (number-ok (notes
         ap (tally f) (sym q)
         ∙ tally-append f (gathered (others seen) cs os) (body 0 cs os)
         ∙ omega (arith, tally-append f (body 0 cs os) (gathered (others seen) cs os), gathered-all f (0 ∷ others seen) cs os (others-rising seen r) (each-has seen (0 ∷ others seen) cs (λ c z. others-has c seen z) h) (l ∙ length-notes os))
+
+-- every op appears once: as many ops pass any test
+pub each-once : (t : Op → Bool) (os fs : List Op) (bs : List Body) → flatten os ≡ flat fs bs → tally (λ o. cond (t o) 1 0) fs ≡ tally (λ o. cond (t o) 1 0) os
+each-once t = nothing-lost (λ o. cond (t o) 1 0)
+
+tally-ops : (os : List Op) → tally (λ o. 1) os ≡ length os
+unfolding tally
+tally-ops [] = refl
+tally-ops (o ∷ os) = omega (arith, tally-ops os)
+
+tally-bytes : (os : List Op) → tally (λ o. length (encode o)) os ≡ length (encodeAll os)
+unfolding tally encodeAll
+tally-bytes [] = refl
+tally-bytes (o ∷ os) = omega (arith, tally-bytes os, length-append (encode o) (encodeAll os))
+
+tally-marks : (os : List Op) → tally markIn os ≡ marksIn os
+unfolding tally
+tally-marks [] = refl
+tally-marks (o ∷ os) = omega (arith, tally-marks os)
+
+-- the flattened patch has the same op count, the same byte length and the same number of marks
+module _ (os fs : List Op) (bs : List Body) (e : flatten os ≡ flat fs bs) where
+  pub same-ops : length fs ≡ length os
+  same-ops = sym (tally-ops fs) ∙ nothing-lost (λ o. 1) os fs bs e ∙ tally-ops os
+
+  pub same-bytes : length (encodeAll fs) ≡ length (encodeAll os)
+  same-bytes = sym (tally-bytes fs) ∙ nothing-lost (λ o. length (encode o)) os fs bs e ∙ tally-bytes os
+
+  pub same-marks : marksIn fs ≡ marksIn os
+  same-marks = sym (tally-marks fs) ∙ nothing-lost markIn os fs bs e ∙ tally-marks os

@@ -5,9 +5,9 @@ use mathlib.Core.List.{List}
 use Prim.Native.Nat.{ℕ}
 use lib.ListN.{length}
 use lib.Dec.{eqb}
-use Rattle.ops.specs.Patch.{Loaded, patchOf}
+use Rattle.ops.specs.Patch.{patchOf}
 use Rattle.machine_model.specs.Step.{step}
-use Rattle.machine_step.specs.Held.{Held, held, After, Code}
+use Rattle.machine_step.specs.Held.{Held, held, After}
 use Rattle.machine_step.specs.View.{view, laid}
 use Rattle.machine_step.specs.Decoded.{codeOf, givenOf}
 use Rattle.machine_step.specs.Run.{Ran, runIn}

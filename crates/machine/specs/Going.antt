@@ -5,7 +5,7 @@ use Prim.Native.Nat.{ℕ}
 use lib.ListN.{length}
 use Rattle.ops.specs.Patch.{patchOf}
 use Rattle.machine_ops.specs.Place.{pick}
-use Rattle.machine_step.specs.Held.{Held, Code, After}
+use Rattle.machine_step.specs.Held.{Held, Code}
 use Rattle.machine_step.specs.Step.{stepOf}
 use Rattle.machine_step.specs.Decoded.{codeOf}
 use Rattle.machine_step.specs.Fits.{Fits}

@@ -42,7 +42,18 @@ impl Machine {
         let calls = self.calls;
         let refs = self.refs;
         let h = self.place;
-        if !is_formed(h, &calls, &refs, &kinds[..n], register, tape, table, channel, output, input.len()) {
+        if !is_formed(
+            h,
+            &calls,
+            &refs,
+            &kinds[..n],
+            register,
+            tape,
+            table,
+            channel,
+            output,
+            input.len(),
+        ) {
             return Stepped {
                 answer: Answer::NotAState,
                 machine: self,
@@ -95,7 +106,18 @@ impl Machine {
         let calls = self.calls;
         let refs = self.refs;
         let h = self.place;
-        if !is_formed(h, &calls, &refs, &kinds[..n], register, tape, table, channel, output, input.len()) {
+        if !is_formed(
+            h,
+            &calls,
+            &refs,
+            &kinds[..n],
+            register,
+            tape,
+            table,
+            channel,
+            output,
+            input.len(),
+        ) {
             return Ran {
                 answer: Answer::NotAState,
                 steps: 0,

@@ -146,10 +146,11 @@ pub fn once(
         input,
     );
     let a = out.number;
+    let next = out.place;
     let machine = Machine {
         calls: calls,
         refs: refs,
-        place: out.place,
+        place: next,
     };
     if a != 0 {
         return Stepped {

@@ -32,23 +32,23 @@ pub struct Ran {
 }
 
 impl Machine {
-    pub const FILE: usize = 65536;
+    pub const FILE: usize = ops::limits::FILE_BYTES;
 
-    pub const OPS: usize = 4096;
+    pub const OPS: usize = ops::limits::OPS;
 
-    pub const MARKS: usize = 256;
+    pub const MARKS: usize = ops::limits::MARKS;
 
-    pub const LANES: usize = 1024;
+    pub const LANES: usize = ops::limits::LANES;
 
-    pub const CALLS: usize = 256;
+    pub const CALLS: usize = Place::CALLS;
 
-    pub const REFS: usize = 256;
+    pub const REFS: usize = Place::REFS;
 
     pub const CHANNEL: usize = 256;
 
-    pub const POINTER: usize = 1000000000;
+    pub const POINTER: usize = Place::POINTER;
 
-    pub const LENGTH: usize = 2000000000;
+    pub const LENGTH: usize = Place::LENGTH;
 
     pub fn fresh() -> Machine
         ensures { λ r. ⌜ r ≡ freshOf ⌝ }

@@ -1,9 +1,9 @@
 -- Function, Call, Return, While, If, Else and End are the model's, laid. Assumes nothing.
 use mathlib.Core.Path.{_≡_, _∙_, refl, ap, sym}
-use mathlib.Core.Bool.{Bool, true, false, cond}
+use mathlib.Core.Bool.{Bool}
 use mathlib.Core.List.{List, [], _∷_, _++_, map, reverse}
 use mathlib.Core.Option.{Option, none, some}
-use Prim.Native.Nat.{ℕ, zero, suc, _+_, _-_, _^_, _≤_, _<_}
+use Prim.Native.Nat.{ℕ, suc, _+_, _-_, _^_, _≤_, _<_}
 use native.Mathlib.Omega.{arith}
 use native.Mathlib.Numerals.{add-one}
 use lib.Dec.{leb, ltb, eqb}
@@ -12,13 +12,13 @@ use lib.ListN
 use lib.Seq.{getD-take, length-take-le, take-append-seam}
 use borrow.Author.Tests.{leb-true, leb-false, le-leb, lt-leb, ltb-true, le-ltb, eqb-true, eqb-false}
 use Rattle.ops.specs.Storage.{fill}
-use Rattle.ops.specs.Op.{Op, Mark, isFunction, isWhile}
+use Rattle.ops.specs.Op.{Op, Mark, isWhile}
 use Rattle.ops.specs.Op.Control.{function, call, ret, while, if, else, end}
 use Rattle.testing_device.proofs.Words.{byCase}
-use Rattle.machine_model.specs.State.{State, Given, goTo, on, withTable, withCalls, halt}
+use Rattle.machine_model.specs.State.{State, Given, lane0, goTo, on, withTable, withCalls, halt}
 use Rattle.machine_model.specs.Scan.{opAt, marks, functions, toEnd, toElse, toOpen, kth}
-use Rattle.machine_model.specs.Step.{Outcome, turn, pick, bar, jump, found, called, back, again, enter}
-use Rattle.machine_model.specs.Step.Outcome.{next, refused}
+use Rattle.machine_model.specs.Step.{turn, pick, bar, jump, found, back, again, enter}
+use Rattle.machine_model.specs.Step.Outcome.{next}
 use Rattle.machine_model.specs.Formed.{Formed, Marked}
 use Rattle.machine_model.specs.Limited.{count}
 use Rattle.machine_model.proofs.Scans.{end-below, else-below, function-below, kth-is}
@@ -27,11 +27,11 @@ use Rattle.machine_model.proofs.Stacks.{pushed, back-popped}
 use Rattle.machine_ops.specs.Place as m
 use Rattle.machine_ops.specs.Found.{rowMark, rowFunction, placeOr, endOf, elseOf, openOf, markOf, entry, enteredIn, countedIn}
 use Rattle.machine_ops.specs.Control.{jumpOf, functionOf, callOf, retOf, whileOf, ifOf, elsesOf, endsOf, inTable}
-use Rattle.machine_step.specs.Held.{Held, held, After, steering}
-use Rattle.machine_step.specs.View.{view, lay, laid}
+use Rattle.machine_step.specs.Held.{Held, held, steering}
+use Rattle.machine_step.specs.View.{view, laid}
 use Rattle.machine_step.specs.Fits.{Counted}
 use Rattle.machine_step.proofs.Lists.{Laid, laid-same, laid-push, laid-fill}
-use Rattle.machine_step.proofs.Over.{Over, over-same, over-num, over-calls, went, meets}
+use Rattle.machine_step.proofs.Over.{over-same, over-num, over-calls, went, meets}
 
 -- the rows ks are to the searches what the ops are
 pub record Rows (os : List Op) (ks : List ℕ) : Type 0 where
@@ -52,47 +52,41 @@ module _ (g : Given) (ks : List ℕ) (r : Rows (g .ops) ks) (c : Held) (h : Coun
   jump-is none b = rw (le-leb (length ks) (length ks) (omega arith)) refl
   jump-is (some j) b = rw (lt-leb (length ks) j (b j refl)) (go-is j)
 
-  module _ (here : c .place .position < length ks) where
-    ends : (j : ℕ) → toEnd (suc (c .place .position)) 0 (drop (suc (c .place .position)) (map rowMark ks)) ≡ some j → j < length ks
-    ends j e =
+  -- a search over the marks that follow the position, which gives a place before their end
+  module _ (to : ℕ → ℕ → List Mark → Option ℕ) (below : (p d : ℕ) (ms : List Mark) (j : ℕ) → to p d ms ≡ some j → j < p + length ms)
+      (here : c .place .position < length ks) where
+    partner : (j : ℕ) → to (suc (c .place .position)) 0 (drop (suc (c .place .position)) (map rowMark ks)) ≡ some j → j < length ks
+    partner j e =
         let i = suc (c .place .position) in
-        omega (arith, end-below i 0 (drop i (map rowMark ks)) j e, length-drop i (map rowMark ks), length-map ks rowMark)
+        omega (arith, below i 0 (drop i (map rowMark ks)) j e, length-drop i (map rowMark ks), length-map ks rowMark)
 
-    elses : (j : ℕ) → toElse (suc (c .place .position)) 0 (drop (suc (c .place .position)) (map rowMark ks)) ≡ some j → j < length ks
-    elses j e =
-        let i = suc (c .place .position) in
-        omega (arith, else-below i 0 (drop i (map rowMark ks)) j e, length-drop i (map rowMark ks), length-map ks rowMark)
+    skip-is : steering c (m.steered (jumpOf ks (c .place) (placeOr (length ks) (to (c .place .position + 1) 0 (drop (c .place .position + 1) (map rowMark ks))))) (c .calls) (c .table))
+        ≡ laid c (jump (view c) (to (suc (c .place .position)) 0 (drop (suc (c .place .position)) (marks (g .ops)))))
+    skip-is = let i = suc (c .place .position) in rw (add-one (c .place .position), r .marked) (jump-is (to i 0 (drop i (map rowMark ks))) partner)
 
-    -- to after the End of the bracket that is open after this op
-    skip-is : steering c (m.steered (jumpOf ks (c .place) (endOf ks (c .place .position + 1))) (c .calls) (c .table))
-        ≡ laid c (jump (view c) (toEnd (suc (c .place .position)) 0 (drop (suc (c .place .position)) (marks (g .ops)))))
-    unfolding endOf
-    skip-is = rw (add-one (c .place .position), r .marked) (jump-is (toEnd (suc (c .place .position)) 0 (drop (suc (c .place .position)) (map rowMark ks))) ends)
-
-    skip-else : steering c (m.steered (jumpOf ks (c .place) (elseOf ks (c .place .position + 1))) (c .calls) (c .table))
-        ≡ laid c (jump (view c) (toElse (suc (c .place .position)) 0 (drop (suc (c .place .position)) (marks (g .ops)))))
-    unfolding elseOf
-    skip-else = rw (add-one (c .place .position), r .marked) (jump-is (toElse (suc (c .place .position)) 0 (drop (suc (c .place .position)) (map rowMark ks))) elses)
-
-    pub while-is : 0 < c .place .lanes → steering c (m.steered (whileOf ks (c .place) (c .register)) (c .calls) (c .table)) ≡ laid c (turn g while (view c))
-    unfolding whileOf m.pick turn pick
-    while-is w =
+    -- the same where lane 0 is zero
+    skip-at-zero : 0 < c .place .lanes
+        → steering c (m.steered (m.pick (eqb (getD (c .register) 0 0) 0) (jumpOf ks (c .place) (placeOr (length ks) (to (c .place .position + 1) 0 (drop (c .place .position + 1) (map rowMark ks))))) (m.hop 0 (m.next (c .place)))) (c .calls) (c .table))
+        ≡ laid c (pick (eqb (lane0 (view c)) 0) (jump (view c) (to (suc (c .place .position)) 0 (drop (suc (c .place .position)) (marks (g .ops))))) (next (on (view c))))
+    unfolding m.pick pick
+    skip-at-zero w =
         let l = getD-take (c .place .lanes) (c .register) 0 0 w in
         byCase (eqb (getD (c .register) 0 0) 0)
         (λ e. rw (l, e) skip-is)
         (λ e. rw (l, e) (go-is (c .place .position)))
 
+  module _ (here : c .place .position < length ks) where
+    pub while-is : 0 < c .place .lanes → steering c (m.steered (whileOf ks (c .place) (c .register)) (c .calls) (c .table)) ≡ laid c (turn g while (view c))
+    unfolding whileOf endOf turn
+    while-is w = skip-at-zero toEnd end-below here w
+
     pub if-is : 0 < c .place .lanes → steering c (m.steered (ifOf ks (c .place) (c .register)) (c .calls) (c .table)) ≡ laid c (turn g if (view c))
-    unfolding ifOf m.pick turn pick
-    if-is w =
-        let l = getD-take (c .place .lanes) (c .register) 0 0 w in
-        byCase (eqb (getD (c .register) 0 0) 0)
-        (λ e. rw (l, e) skip-else)
-        (λ e. rw (l, e) (go-is (c .place .position)))
+    unfolding ifOf elseOf turn
+    if-is w = skip-at-zero toElse else-below here w
 
     pub else-is : steering c (m.steered (elsesOf ks (c .place)) (c .calls) (c .table)) ≡ laid c (turn g else (view c))
-    unfolding elsesOf turn
-    else-is = skip-is
+    unfolding elsesOf endOf turn
+    else-is = skip-is toEnd end-below here
 
   -- ---- End
 
@@ -171,7 +165,7 @@ module _ (g : Given) (ks : List ℕ) (r : Rows (g .ops) ks) (c : Held) (h : Coun
     unfolding functionOf endOf turn
     function-is here k =
         let i = suc (c .place .position) in
-        rw (add-one (c .place .position), r .marked) (function-by (c .place .position) k (toEnd i 0 (drop i (map rowMark ks))) (ends here))
+        rw (add-one (c .place .position), r .marked) (function-by (c .place .position) k (toEnd i 0 (drop i (map rowMark ks))) (partner toEnd end-below here))
 
     found-by : (x : Option ℕ) → ((j : ℕ) → x ≡ some j → Marked g j) → c .place .depth < 256
         → steering c (m.pick (leb (length ks) (placeOr (length ks) x)) (m.steered (m.hop 29 (c .place)) (c .calls) (c .table)) (m.steered (m.hop 0 (m.atPosition (m.ofFunctions (m.ofDepth (c .place) (c .place .depth + 1)) (countedIn (placeOr (length ks) x) (c .place .functions) (c .table))) (placeOr (length ks) x + 1))) (lib.ListN.set (c .calls) (c .place .depth) (c .place .position)) (enteredIn (placeOr (length ks) x) (c .place .functions) (c .table))))

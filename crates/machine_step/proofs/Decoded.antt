@@ -1,18 +1,18 @@
 -- The arrays that are read of a good file match its ops, and its ops are within the limits. Assumes nothing.
 use mathlib.Core.Path.{_≡_, _∙_, refl, ap, ap₂, sym, subst}
-use mathlib.Core.Bool.{Bool, true, false, cond}
+use mathlib.Core.Bool.{Bool, true}
 use mathlib.Core.List.{List, [], _∷_, map}
-use Prim.Native.Nat.{ℕ, zero, suc, _+_, _*_, _/_, _%_, _^_, _≤_, _<_}
+use Prim.Native.Nat.{ℕ, zero, suc, _+_, _*_, _≤_, _<_}
 use native.Mathlib.Omega.{arith}
 use native.Mathlib.Nat.{not-suc-le-zero, le-of-suc-le-suc}
 use lib.Dec.{leb, eqb}
 use lib.ListN.{length, getD, length-map, List·getD-map, List·getD-eq-default}
 use borrow.Author.Tests.{leb-true, leb-false, eqb-true}
-use Rattle.ops.specs.Bytes.{u16At, u32At, u64At, valuesAt}
-use Rattle.ops.specs.Kinds.{shape, kindAt, indexOf, runNeed}
+use Rattle.ops.specs.Bytes.{u64At, valuesAt}
+use Rattle.ops.specs.Kinds.{shape, kindAt, runNeed}
 use Rattle.ops.specs.Record.{lengthOk, countOf}
 use Rattle.ops.specs.Patch.{Item, item, patchOf, kindIn, countIn, needIn, placeIn, markOf}
-use Rattle.ops.specs.Op.{Op, Plain, Mark, mark, isFunction, isWhile, kindOf, needs}
+use Rattle.ops.specs.Op.{Op, Plain, Mark, isWhile, needs}
 use Rattle.ops.specs.Op.Plain.{comment, store, move, swap, locate, offset, deref, refer, cell, lane, get, put, peek, poke, alloc, free}
 use Rattle.ops.specs.Op.Op.{control, set, load, plain}
 use Rattle.ops.specs.Ops.{rowAt, plainWith, opWith, plainCount, opCount}
@@ -20,14 +20,13 @@ use Rattle.ops.specs.Ops as file
 use Rattle.ops.proofs.Whole.{Tells, tells}
 use Rattle.ops.proofs.Items.{IsItem, inside, Every, items-are, item-at, few-items, marksIn, few-marks}
 use Rattle.ops.proofs.Rows.{Row, row-rule}
-use Rattle.ops.proofs.Meaning.{Means, means}
+use Rattle.ops.proofs.Meaning.{means}
 use Rattle.testing_device.proofs.Words.{byCase}
-use Rattle.machine_model.specs.State.{Given, lanes}
+use Rattle.machine_model.specs.State.{lanes}
 use Rattle.machine_model.specs.Scan.{opAt, marks, functions}
 use Rattle.machine_model.specs.Formed.{Each}
 use Rattle.machine_model.specs.Limited.{spanOf, span, Word, numbersOf, numbers, count, Limited}
 use Rattle.machine_ops.specs.Found.{rowMark, rowFunction}
-use Rattle.machine_step.specs.Held.{Code}
 use Rattle.machine_step.specs.Fine.{Fine}
 use Rattle.machine_step.specs.Decoded.{codeOf, givenOf}
 use Rattle.machine_step.proofs.Families.{Told, op-row}

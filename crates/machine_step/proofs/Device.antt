@@ -1,12 +1,12 @@
 -- Get, Put, Peek and Poke are the model's, laid. Assumes nothing.
-use mathlib.Core.Path.{_≡_, _∙_, refl, ap, sym}
-use mathlib.Core.Bool.{Bool, true, false, _&&_}
+use mathlib.Core.Path.{_≡_, _∙_, refl}
+use mathlib.Core.Bool.{true}
 use mathlib.Core.List.{List, [], _∷_, _++_, append-nil}
 use Prim.Native.Nat.{ℕ, zero, suc, _+_, _-_, _%_, _≤_, _<_}
 use native.Mathlib.Omega.{arith}
 use native.Mathlib.Nat.{add-zero}
 use native.Mathlib.Numerals.{add-one}
-use lib.Dec.{leb, ltb, eqb, eqb·suc-zero}
+use lib.Dec.{leb, eqb, eqb·suc-zero}
 use lib.ListN.{length, getD, take, drop, length-append}
 use lib.ListN
 use lib.Seq.{getD-take, length-take-le, take-at, take-set-lt}
@@ -15,21 +15,21 @@ use Rattle.ops.specs.Op.Plain.{get, put, peek, poke}
 use Rattle.ops.specs.declared.op.Mode.{Mode}
 use Rattle.testing_device.specs.Device.{getOf, putOf, ring}
 use Rattle.testing_device.specs.Room.{putIn, placed}
-use Rattle.testing_device.specs.Channel.{isRing, peekOf, pokeIn}
+use Rattle.testing_device.specs.Channel.{isRing, pokeIn}
 use Rattle.testing_device.specs.declared.device.Got.{Got}
 use Rattle.testing_device.specs.declared.device.Got.the-variants as got
 use Rattle.testing_device.proofs.Words.{byCase}
 use Rattle.testing_device.proofs.Rings.{length-ring, ring-next, ring-poke, ring-same, ring-laid, peek-none, peek-some}
-use Rattle.machine_model.specs.State.{State, Given, on, withOuts, withChannel}
-use Rattle.machine_model.specs.Step.{Outcome, act, bar, gotten, write, peekAt}
-use Rattle.machine_model.specs.Step.Outcome.{next, refused}
+use Rattle.machine_model.specs.State.{Given, on, withOuts, withChannel}
+use Rattle.machine_model.specs.Step.{act, bar, gotten, write, peekAt}
+use Rattle.machine_model.specs.Step.Outcome.{next}
 use Rattle.machine_ops.specs.Place as m
 use Rattle.machine_ops.specs.Device as d
-use Rattle.machine_step.specs.Held.{Held, held, After, telling}
-use Rattle.machine_step.specs.View.{view, lay, laid}
+use Rattle.machine_step.specs.Held.{Held, held, telling}
+use Rattle.machine_step.specs.View.{view, laid}
 use Rattle.machine_step.specs.Fits.{Counted}
-use Rattle.machine_step.proofs.Lists.{Laid, laid-set, laid-fill}
-use Rattle.machine_step.proofs.Over.{Over, over-same, over-num, went, meets}
+use Rattle.machine_step.proofs.Lists.{laid-set, laid-fill}
+use Rattle.machine_step.proofs.Over.{over-same, over-num, went, meets}
 use Rattle.machine_step.proofs.Tape.{lane-went}
 
 module _ (g : Given) (c : Held) (h : Counted c) where
@@ -92,7 +92,7 @@ module _ (g : Given) (c : Held) (h : Counted c) where
   peek-went w k =
       let p = c .place in let o = over-same c h in let v = getD (c .channel) (p .first) 0 in
       meets c _ _
-      (record { calls = o .calls; refs = o .refs; register = laid-set (c .register) (p .lanes) 0 v w (h .lanes); table = o .table; output = o .output; channel = ring-same (c .channel) ((p .first + 1) % 256) (p .waiting - 1); head = let q : p .waiting - (p .waiting - 1) ≡ 1 = omega arith in rw q refl })
+      (record { calls = o .calls; refs = o .refs; register = laid-set (c .register) (p .lanes) 0 v w (h .lanes); table = o .table; output = o .output; channel = ring-same (c .channel) ((p .first + 1) % 256) (p .waiting - 1); head = omega arith })
       (rw (take-set-lt (p .lanes) (c .register) 0 v w, add-one (c .place .position)) refl)
 
   no-values : c .place .waiting ≡ 0 → record { number = 33; held = c } ≡ laid c (peekAt (view c) (ring (c .channel) (c .place .first) (c .place .waiting)))

@@ -1,6 +1,5 @@
 -- The rows of the table of kinds: which op, which family and which mark each of them is. Assumes nothing.
 use mathlib.Core.Path.{_≡_, refl}
-use mathlib.Core.Bool.{Bool}
 use mathlib.Core.List.{List}
 use Prim.Native.Nat.{ℕ}
 use lib.Dec.{eqb}
@@ -9,7 +8,7 @@ use Rattle.lanes.specs.declared.lane.CellOp.the-variants.{Index, BitwiseNand, B
 use Rattle.lanes.specs.declared.lane.LaneOp.{LaneOp}
 use Rattle.lanes.specs.declared.lane.LaneOp.the-variants.{BitwiseNot, Not, Neg, Inc, Dec, IsNonNegative, ToInt, ToFloat, FloatNeg, FloatIsNonNegative}
 use Rattle.ops.specs.Kinds.{indexOf}
-use Rattle.ops.specs.Op.{Control, Plain, Sort, Op, Mark, mark, isFunction, isWhile, kindOf, controlKind, plainKind, setKind, cellKind, laneKind}
+use Rattle.ops.specs.Op.{Control, Plain, Sort, Op, mark, isFunction, isWhile, kindOf, controlKind, plainKind, setKind, cellKind, laneKind}
 use Rattle.ops.specs.Op.Control.{function, call, ret, while, if, else, end}
 use Rattle.ops.specs.Op.Plain.{comment, store, move, swap, locate, offset, deref, refer, cell, lane, get, put, peek, poke, alloc, free}
 use Rattle.ops.specs.Op.Sort.{ints, floats}

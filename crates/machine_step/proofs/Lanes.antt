@@ -1,7 +1,7 @@
 -- The cell ops, Swap and the lane-only ops are the model's, laid. Assumes nothing.
-use mathlib.Core.Path.{_≡_, _∙_, refl, sym}
-use mathlib.Core.List.{List, [], _∷_, _++_, append-nil}
-use Prim.Native.Nat.{ℕ, zero, suc, _+_, _≤_, _<_}
+use mathlib.Core.Path.{_≡_, refl, sym}
+use mathlib.Core.List.{List, [], _++_, append-nil}
+use Prim.Native.Nat.{ℕ, zero, suc, _+_, _≤_}
 use native.Mathlib.Omega.{arith}
 use native.Mathlib.Nat.{add-zero}
 use native.Mathlib.Numerals.{add-one}
@@ -15,18 +15,18 @@ use Rattle.lanes.specs.declared.lane.CellOp.{CellOp}
 use Rattle.lanes.specs.declared.lane.LaneOp.{LaneOp}
 use Rattle.ops.specs.Op.Plain.{cell, lane, swap, offset}
 use Rattle.testing_device.proofs.Words.{byCase}
-use Rattle.machine_model.specs.State.{State, Given, on, withReg, withTape}
-use Rattle.machine_model.specs.Step.{Outcome, act, bar, cells, stored}
+use Rattle.machine_model.specs.State.{Given, on, withReg, withTape}
+use Rattle.machine_model.specs.Step.{act, bar, cells, stored}
 use Rattle.machine_model.specs.Step.Outcome.{next}
 use Rattle.machine_model.proofs.Kept.{length-zip, length-map}
 use Rattle.machine_ops.specs.Place as m
 use Rattle.machine_ops.specs.Tape.{copied}
 use Rattle.machine_ops.specs.Lane.{cellOf, swapOf, aloneOf, offsetOf}
-use Rattle.machine_step.specs.Held.{Held, held, After, laning, swapping}
-use Rattle.machine_step.specs.View.{view, lay, laid}
+use Rattle.machine_step.specs.Held.{Held, held, laning, swapping}
+use Rattle.machine_step.specs.View.{view, laid}
 use Rattle.machine_step.specs.Fits.{Counted}
 use Rattle.machine_step.proofs.Lists.{Laid, laid-by, zip-take, zip-drop, map-take, map-drop, beside-is, copied-is}
-use Rattle.machine_step.proofs.Over.{Over, over-reg, over-num, went, meets}
+use Rattle.machine_step.proofs.Over.{over-reg, over-num, went, meets}
 
 -- no lanes over the cells from p on
 pub none-stored : (p : ℕ) (t : List ℕ) → (take p t ++ []) ++ drop (p + 0) t ≡ t

@@ -1,5 +1,5 @@
 -- Storage whose first entries stand for a list: what a push, a fill, a copy and a lane loop leave of it. Assumes nothing.
-use mathlib.Core.Path.{_≡_, _∙_, refl, ap, sym}
+use mathlib.Core.Path.{_≡_, refl, ap, sym}
 use mathlib.Core.List.{List, [], _∷_, _++_, append-assoc}
 use Prim.Native.Nat.{ℕ, zero, suc, _+_, _≤_, _<_}
 use native.Mathlib.Omega.{arith}

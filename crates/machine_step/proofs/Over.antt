@@ -1,19 +1,16 @@
 -- From 'what is seen is the model's state, and the rest is kept' to one equation. Assumes nothing.
 use mathlib.Core.Path.{_≡_, _∙_, refl, ap, sym}
 use mathlib.Core.Bool.{Bool}
-use mathlib.Core.List.{List, _++_}
-use Prim.Native.Nat.{ℕ, _+_, _-_, _%_, _≤_, _<_}
+use mathlib.Core.List.{List}
+use Prim.Native.Nat.{ℕ, _≤_}
 use native.Mathlib.Omega.{arith}
-use native.Mathlib.Numerals.{add-one}
-use lib.ListN.{length, take, drop, length-append, length-drop}
-use lib.ListN
+use lib.ListN.{length, drop, length-append, length-drop}
 use lib.Seq.{take-append-seam}
 use Rattle.ops.specs.Storage.{fill}
 use Rattle.testing_device.specs.Device.{ring, fillRing}
-use Rattle.testing_device.proofs.Rings.{length-ring, ring-same, ring-laid, ring-fill, length-fillRing}
-use Rattle.machine_model.specs.State.{State, Given}
-use Rattle.machine_model.specs.Step.{Outcome}
-use Rattle.machine_model.specs.Step.Outcome.{finished, refused, next}
+use Rattle.testing_device.proofs.Rings.{length-ring, ring-same, ring-fill, length-fillRing}
+use Rattle.machine_model.specs.State.{State}
+use Rattle.machine_model.specs.Step.Outcome.{next}
 use Rattle.machine_ops.specs.declared.place.Place.{Place}
 use Rattle.machine_step.specs.Held.{Held, held, After}
 use Rattle.machine_step.specs.View.{view, lay, laid, headOf}
@@ -30,25 +27,24 @@ pub record Over (c d : Held) : Type 0 where
   pub channel : fillRing (c .channel) (d .place .first) (ring (d .channel) (d .place .first) (d .place .waiting)) ≡ d .channel
   pub head : headOf (c .place) (d .place .waiting) ≡ d .place .first
 
+-- what agrees part by part is the same
+alike : {p q : Place} {cs cs′ rs rs′ g g′ t t′ ts ts′ ch ch′ o o′ : List ℕ} → p ≡ q → cs ≡ cs′ → rs ≡ rs′ → g ≡ g′ → t ≡ t′ → ts ≡ ts′ → ch ≡ ch′ → o ≡ o′
+    → held p cs rs g t ts ch o ≡ held q cs′ rs′ g′ t′ ts′ ch′ o′
+alike a b c d e f g h = rw (a, b, c, d, e, f, g, h) refl
+
 pub over-lay : (c d : Held) → Over c d → lay (view d) c ≡ d
 unfolding lay
 over-lay c d o =
     let w = length-ring (d .channel) (d .place .first) (d .place .waiting) in
-    rw (
-      w,
-      o .head,
-      o .channel,
-      o .calls .whole,
-      o .refs .whole,
-      o .register .whole,
-      o .table .whole,
-      o .output .whole,
-      o .calls .count,
-      o .refs .count,
-      o .register .count,
-      o .table .count,
-      o .output .count,
-    ) refl
+    let f = ap (λ (n : ℕ). headOf (c .place) n) w ∙ o .head in
+    alike (rw (w, o .head, o .calls .count, o .refs .count, o .register .count, o .table .count, o .output .count) refl)
+    (o .calls .whole)
+    (o .refs .whole)
+    (o .register .whole)
+    refl
+    (o .table .whole)
+    (ap (λ (n : ℕ). fillRing (c .channel) n (view d .channel)) f ∙ o .channel)
+    (o .output .whole)
 
 abbrev pub went : Held → After
 went d = record { number = 0; held = d }

@@ -1,14 +1,14 @@
 -- A step as the code makes it is the model's step, laid. Assumes nothing.
-use mathlib.Core.Path.{_≡_, _∙_, refl, ap, sym, subst}
-use mathlib.Core.Bool.{Bool, true, false, _||_}
+use mathlib.Core.Path.{_≡_, _∙_, refl, ap, sym}
+use mathlib.Core.Bool.{Bool, false, _||_}
 use mathlib.Core.List.{List}
-use Prim.Native.Nat.{ℕ, _+_, _≤_, _<_}
+use Prim.Native.Nat.{ℕ, _≤_, _<_}
 use native.Mathlib.Omega.{arith}
-use lib.Dec.{leb, ltb, eqb}
+use lib.Dec.{leb, ltb}
 use lib.ListN.{length, getD}
 use lib.Seq.{length-take-le}
 use borrow.Author.Tests.{ltb-false, lt-leb}
-use Rattle.ops.specs.Bytes.{u16At, u32At, u64At}
+use Rattle.ops.specs.Bytes.{u16At, u64At}
 use Rattle.ops.specs.Kinds.{indexOf}
 use Rattle.ops.specs.Op.{Control, Plain, Op, isFunction, needs, kindOf, plainKind, controlKind}
 use Rattle.ops.specs.Op.Control.{function, call, ret, while, if, else, end}
@@ -19,30 +19,27 @@ use Rattle.ops.specs.Ops.{modeIn, rowAt, opWith, plainWith, opCount, plainCount
 use Rattle.ops.specs.Ops as file
 use Rattle.ops.proofs.Meaning.{means}
 use Rattle.testing_device.proofs.Words.{byCase}
-use Rattle.machine_model.specs.State.{State, Given}
+use Rattle.machine_model.specs.State.{Given}
 use Rattle.machine_model.specs.Scan.{opAt, functions}
-use Rattle.machine_model.specs.Step.{Outcome, exec, act, turn, step, op, pick, bar}
-use Rattle.machine_model.specs.Step.Outcome.{finished, refused, next}
+use Rattle.machine_model.specs.Step.{exec, act, step, op, pick, bar}
 use Rattle.machine_model.specs.Formed.{Formed}
 use Rattle.machine_model.specs.Limited.{count}
-use Rattle.machine_model.proofs.Outcomes.{or-right}
 use Rattle.machine_ops.specs.Place as m
 use Rattle.machine_ops.specs.Control.{controlOf}
 use Rattle.machine_ops.specs.Tape.{tapeOf}
 use Rattle.machine_ops.specs.Device.{deviceOf}
-use Rattle.machine_step.specs.Held.{Held, After, Code}
+use Rattle.machine_step.specs.Held.{Held}
 use Rattle.machine_step.specs.Family.{familyOf}
 use Rattle.machine_step.specs.Step.{opOf, stepOf}
-use Rattle.machine_step.specs.View.{view, lay, laid}
+use Rattle.machine_step.specs.View.{view, laid}
 use Rattle.machine_step.specs.Decoded.{codeOf, givenOf}
 use Rattle.machine_step.specs.Fits.{Counted, Fits}
-use Rattle.machine_step.specs.Run.{isOver}
 use Rattle.machine_step.proofs.Families.{cell-row, lane-row}
 use Rattle.machine_step.proofs.Control.{Rows, function-is, call-is, ret-is, while-is, if-is, else-is, end-is}
 use Rattle.machine_step.proofs.Tape.{next-is, set-is, load-is, store-is, move-is, where-is, deref-is, refer-is, alloc-is}
 use Rattle.machine_step.proofs.Lanes.{cell-is, swap-is, alone-is, offset-is}
 use Rattle.machine_step.proofs.Device.{get-is, put-is, peek-is, poke-is}
-use Rattle.machine_step.proofs.Decoded.{itemOf, row-of, rows, many-kinds, op-is-item, kind-is, count-is, place-is, need-is, is-item, few, few-entered, bytes-are}
+use Rattle.machine_step.proofs.Decoded.{itemOf, row-of, rows, op-is-item, kind-is, count-is, place-is, need-is, is-item, few, few-entered, bytes-are}
 
 -- an op of any row, with n what its payload counts
 module _ (g : Given) (ks bs : List ℕ) (n a : ℕ) (c : Held) (h : Counted c) (r : Rows (g .ops) ks) (f : Formed g (view c))

@@ -1,6 +1,5 @@
 -- Set, Load, Store, Move, Where, Deref, Refer and Alloc are the model's, laid. Assumes nothing.
-use mathlib.Core.Path.{_≡_, _∙_, refl, ap, sym}
-use mathlib.Core.Bool.{Bool, true, false, _||_}
+use mathlib.Core.Path.{_≡_, refl}
 use mathlib.Core.List.{List, [], _∷_, _++_}
 use Prim.Native.Nat.{ℕ, zero, suc, _+_, _-_, _^_, _≤_, _<_}
 use native.Mathlib.Omega.{arith}
@@ -17,17 +16,17 @@ use Rattle.ops.specs.Op.{Sort}
 use Rattle.ops.specs.Op.Op.{set, load}
 use Rattle.ops.specs.Op.Plain.{store, move, locate, deref, refer, alloc}
 use Rattle.testing_device.proofs.Words.{byCase}
-use Rattle.machine_model.specs.State.{State, Given, on, withReg, withTape, withCounted, withPointer, withRefs, setLane, withTaken}
-use Rattle.machine_model.specs.Step.{Outcome, exec, act, bar, cover, grown, stored, moveBy, referTo}
-use Rattle.machine_model.specs.Step.Outcome.{next, refused}
+use Rattle.machine_model.specs.State.{Given, on, withReg, withTape, withCounted, withPointer, withRefs, setLane, withTaken}
+use Rattle.machine_model.specs.Step.{exec, act, bar, cover, grown, stored}
+use Rattle.machine_model.specs.Step.Outcome.{next}
 use Rattle.machine_model.proofs.Stacks.{pushed, refer-popped}
 use Rattle.machine_ops.specs.Place as m
 use Rattle.machine_ops.specs.Tape.{copied, reach, setOf, loadOf, storeOf, moveOf, whereOf, derefOf, referOf, stocked, allocOf, inRegister, inTape, inRefs}
-use Rattle.machine_step.specs.Held.{Held, held, After, taping}
-use Rattle.machine_step.specs.View.{view, lay, laid}
+use Rattle.machine_step.specs.Held.{Held, held, taping}
+use Rattle.machine_step.specs.View.{view, laid}
 use Rattle.machine_step.specs.Fits.{Counted}
-use Rattle.machine_step.proofs.Lists.{Laid, laid-by, laid-same, laid-push, laid-set, laid-fill, length-part, length-values, beside-is, copied-is}
-use Rattle.machine_step.proofs.Over.{Over, over-reg, over-num, over-refs, went, meets}
+use Rattle.machine_step.proofs.Lists.{laid-same, laid-push, laid-set, laid-fill, length-part, length-values, beside-is, copied-is}
+use Rattle.machine_step.proofs.Over.{over-reg, over-num, over-refs, went, meets}
 use Rattle.machine_step.proofs.Lanes.{none-stored}
 
 reach-is : (l e : ℕ) → reach l e ≡ cover e l

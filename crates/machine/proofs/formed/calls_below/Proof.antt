@@ -1,62 +1,25 @@
-use mathlib.Core.Path.{_≡_, _∙_, refl, sym, ap}
-use mathlib.Core.List.{List}
-use mathlib.Core.Bool.{Bool}
-use Prim.Native.Nat.{ℕ, _+_, _-_, _≤_, _<_}
+-- `machine::formed::calls_below` meets its contract. Assumes nothing.
+use mathlib.Core.Path.{_≡_, _∙_, refl, sym}
+use Prim.Native.Nat.{_-_, _≤_}
 use native.Mathlib.Omega.{arith}
 use native.Mathlib.Nat.{sub-zero}
-use lib.ListN.{length, take, drop}
-use lib.Dec.{leb, ltb, eqb}
 use borrow.Author.Needs.{needs}
-use borrow.Author.Tests.{le-leb, lt-leb, le-ltb, lt-ltb, eq-eqb, ne-eqb}
-use Rattle.machine.proofs.Entries.{next-entry, no-entry}
+use lib.Dec.{ltb}
+use borrow.Author.Tests.{le-ltb, lt-ltb}
 use Rattle.machine.specs.Formed.{allOf, callsBelow}
+use Rattle.machine.proofs.Entries.{left, all-end, all-on, all-not}
 use Rattle.machine.proofs.formed.calls_below.Statement.{statement}
 use Rattle.machine.proofs.formed.calls_below.Tie as tie
-use Rattle.machine.proofs.formed.calls_below.Reads as reads
-use Rattle.machine.proofs.formed.calls_below.Lts as lts
-use Rattle.machine.proofs.formed.wide.Reads as wide-reads
 
 abbrev Inv-loop : tie.InvT-loop
-Inv-loop calls n ops i₀ i = (i ≤ n) × (callsBelow calls n ops ≡ allOf (λ c. ltb c ops) (take (n - i) (drop i calls)))
+Inv-loop calls n ops i₀ i = (i ≤ n) × (callsBelow calls n ops ≡ allOf (λ c. ltb c ops) (left calls n i))
 
 abbrev μ-loop : tie.MeasureT-loop
 μ-loop calls n ops i₀ i = n - i
 
--- src/formed.rt:72:5
 loop-holds : tie.Need-loop-holds Inv-loop μ-loop
-loop-holds c = ?
-
--- src/formed.rt:73:24
-mul-wide : tie.Need-mul-wide Inv-loop μ-loop
-mul-wide c = ?
-
--- src/formed.rt:73:24
-element-copy-out-wide : tie.Need-element-copy-out-wide Inv-loop μ-loop
-element-copy-out-wide c = ?
-
--- src/formed.rt:73:19
-wide-requires : tie.Need-wide-requires Inv-loop μ-loop
-wide-requires c κs = ?
-
--- src/formed.rt:74:13
-returns : tie.Need-returns Inv-loop μ-loop
-returns c = ?
-
--- src/formed.rt:76:9
-add-i : tie.Need-add-i Inv-loop μ-loop
-add-i c = ?
-
--- src/formed.rt:72:5
-loop-less : tie.Need-loop-less Inv-loop μ-loop
-loop-less c = ?
-
--- src/formed.rt:72:5
-loop-again : tie.Need-loop-again Inv-loop μ-loop
-loop-again c = ?
-
--- src/formed.rt:67:1
-returns-2 : tie.Need-returns-2 Inv-loop μ-loop
-returns-2 c = ?
+unfolding callsBelow
+loop-holds c = (search needs, rw sub-zero refl)
 
 pub calls-below-spec : {M : Type 1} → statement M
 calls-below-spec =
@@ -65,11 +28,11 @@ calls-below-spec =
     Inv-loop
     μ-loop
     loop-holds
-    mul-wide
-    element-copy-out-wide
-    wide-requires
-    returns
-    add-i
-    loop-less
-    loop-again
-    returns-2)
+    (λ c. search needs)
+    (λ c. search needs)
+    (λ c κs. search needs)
+    (λ c. sym (c .before .before .before .before .loop .inv .1 ∙ all-not _ _ _ _ (c .before .before .before .loop-test .taken) (omega arith) (le-ltb _ _ (rw (c .before .wide .ensures .0) at (c .if1 .taken)))))
+    (λ c. search needs)
+    (λ c. search needs)
+    (λ c. (search needs, c .before .before .before .before .loop .inv .1 ∙ all-on _ _ _ _ (c .before .before .before .loop-test .taken) (omega arith) (lt-ltb _ _ (rw (c .before .wide .ensures .0) at (c .if1 .left)))))
+    (λ c. sym (c .before .loop .inv .1 ∙ all-end _ _ _ _ (c .loop-test .left))))

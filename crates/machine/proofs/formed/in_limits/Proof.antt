@@ -1,39 +1,41 @@
+-- `machine::formed::in_limits` meets its contract. Assumes nothing.
+use mathlib.Core.Path.{refl}
+use borrow.Author.Tests.{lt-leb, le-leb}
+use Rattle.machine.specs.Formed.{inLimits}
 use Rattle.machine.proofs.formed.in_limits.Statement.{statement}
 use Rattle.machine.proofs.formed.in_limits.Tie as tie
-use Rattle.machine.proofs.formed.in_limits.Reads as reads
-use Rattle.machine.proofs.formed.in_limits.Lts as lts
 
--- src/formed.rt:25:9
 returns : tie.Need-returns
-returns c = ?
+unfolding inLimits
+returns c = simp (lt-leb _ _ (c .if1 .taken))
 
--- src/formed.rt:28:9
 returns-2 : tie.Need-returns-2
-returns-2 c = ?
+unfolding inLimits
+returns-2 c = simp (le-leb _ _ (c .before .before .if1 .left), lt-leb _ _ (c .if2 .taken))
 
--- src/formed.rt:31:9
 returns-3 : tie.Need-returns-3
-returns-3 c = ?
+unfolding inLimits
+returns-3 c = simp (le-leb _ _ (c .before .before .before .before .if1 .left), le-leb _ _ (c .before .before .if2 .left), lt-leb _ _ (c .if3 .taken))
 
--- src/formed.rt:34:9
 returns-4 : tie.Need-returns-4
-returns-4 c = ?
+unfolding inLimits
+returns-4 c = simp (le-leb _ _ (c .before .before .before .before .before .before .if1 .left), le-leb _ _ (c .before .before .before .before .if2 .left), le-leb _ _ (c .before .before .if3 .left), lt-leb _ _ (c .if4 .taken))
 
--- src/formed.rt:37:9
 returns-5 : tie.Need-returns-5
-returns-5 c = ?
+unfolding inLimits
+returns-5 c = simp (le-leb _ _ (c .before .before .before .before .before .before .before .before .if1 .left), le-leb _ _ (c .before .before .before .before .before .before .if2 .left), le-leb _ _ (c .before .before .before .before .if3 .left), le-leb _ _ (c .before .before .if4 .left), lt-leb _ _ (c .if5 .taken))
 
--- src/formed.rt:40:9
 returns-6 : tie.Need-returns-6
-returns-6 c = ?
+unfolding inLimits
+returns-6 c = simp (le-leb _ _ (c .before .before .before .before .before .before .before .before .before .before .if1 .left), le-leb _ _ (c .before .before .before .before .before .before .before .before .if2 .left), le-leb _ _ (c .before .before .before .before .before .before .if3 .left), le-leb _ _ (c .before .before .before .before .if4 .left), le-leb _ _ (c .before .before .if5 .left), lt-leb _ _ (c .if6 .taken))
 
--- src/formed.rt:43:9
 returns-7 : tie.Need-returns-7
-returns-7 c = ?
+unfolding inLimits
+returns-7 c = simp (le-leb _ _ (c .before .before .before .before .before .before .before .before .before .before .before .before .if1 .left), le-leb _ _ (c .before .before .before .before .before .before .before .before .before .before .if2 .left), le-leb _ _ (c .before .before .before .before .before .before .before .before .if3 .left), le-leb _ _ (c .before .before .before .before .before .before .if4 .left), le-leb _ _ (c .before .before .before .before .if5 .left), le-leb _ _ (c .before .before .if6 .left), lt-leb _ _ (c .if7 .taken))
 
--- src/formed.rt:21:1
 returns-8 : tie.Need-returns-8
-returns-8 c = ?
+unfolding inLimits
+returns-8 c = rw (le-leb _ _ (c .before .before .before .before .before .before .before .before .before .before .before .before .before .if1 .left), le-leb _ _ (c .before .before .before .before .before .before .before .before .before .before .before .if2 .left), le-leb _ _ (c .before .before .before .before .before .before .before .before .before .if3 .left), le-leb _ _ (c .before .before .before .before .before .before .before .if4 .left), le-leb _ _ (c .before .before .before .before .before .if5 .left), le-leb _ _ (c .before .before .before .if6 .left), le-leb _ _ (c .before .if7 .left)) refl
 
 pub in-limits-spec : {M : Type 1} → statement M
 in-limits-spec =

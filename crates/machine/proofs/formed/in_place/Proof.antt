@@ -1,19 +1,21 @@
+-- `machine::formed::in_place` meets its contract. Assumes nothing.
+use mathlib.Core.Path.{refl}
+use borrow.Author.Tests.{lt-leb, le-leb}
+use Rattle.machine.specs.Formed.{inPlace}
 use Rattle.machine.proofs.formed.in_place.Statement.{statement}
 use Rattle.machine.proofs.formed.in_place.Tie as tie
-use Rattle.machine.proofs.formed.in_place.Reads as reads
-use Rattle.machine.proofs.formed.in_place.Lts as lts
 
--- src/formed.rt:52:9
 returns : tie.Need-returns
-returns c = ?
+unfolding inPlace
+returns c = simp (lt-leb _ _ (c .if1 .taken))
 
--- src/formed.rt:55:9
 returns-2 : tie.Need-returns-2
-returns-2 c = ?
+unfolding inPlace
+returns-2 c = simp (le-leb _ _ (c .before .before .if1 .left), lt-leb _ _ (c .if2 .taken))
 
--- src/formed.rt:48:1
 returns-3 : tie.Need-returns-3
-returns-3 c = ?
+unfolding inPlace
+returns-3 c = rw (le-leb _ _ (c .before .before .before .if1 .left), le-leb _ _ (c .before .if2 .left)) refl
 
 pub in-place-spec : {M : Type 1} → statement M
 in-place-spec = tie.close (tie.spec returns returns-2 returns-3)

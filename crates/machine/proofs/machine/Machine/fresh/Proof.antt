@@ -1,11 +1,12 @@
+-- `machine::machine::Machine::fresh` meets its contract. Assumes nothing.
+use mathlib.Core.Path.{refl}
+use Rattle.machine.specs.Fresh.{freshOf}
 use Rattle.machine.proofs.machine.Machine.fresh.Statement.{statement}
 use Rattle.machine.proofs.machine.Machine.fresh.Tie as tie
-use Rattle.machine.proofs.machine.Machine.fresh.Reads as reads
-use Rattle.machine.proofs.machine.Machine.fresh.Lts as lts
 
--- src/machine.rt:52:5
 returns : tie.Need-returns
-returns c = ?
+unfolding freshOf
+returns c = refl
 
 pub fresh-spec : {M : Type 1} → statement M
 fresh-spec = tie.close (tie.spec returns)

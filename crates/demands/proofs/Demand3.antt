@@ -1,0 +1,175 @@
+-- Demand 3 on the code: a patch that `check` passes is never refused with 20 or 21 by a fresh run, nor by a run or a step that takes up what
+-- such calls left. Assumes nothing.
+use mathlib.Core.Path.{_≡_, _∙_, refl, ap, sym, subst}
+use mathlib.Core.Bool.{true, false}
+use mathlib.Core.List.{List, map}
+use Prim.Native.Nat.{ℕ}
+use lib.Dec.{eqb}
+use lib.ListN.{length, length-replicate}
+use borrow.Author.Tests.{eqb-true, eqb-false}
+use Rattle.ops.specs.Op.{Op}
+use Rattle.ops.specs.Patch.{patchOf}
+use Rattle.ops.specs.Ops.{opAt}
+use Rattle.ops.specs.Ops.Patch.{ops, refused}
+use Rattle.ops.proofs.Meaning.{ops-are, refused-are}
+use Rattle.testing_device.proofs.Words.{byCase, and-left}
+use Rattle.machine_model.specs.State.{State}
+use Rattle.machine_model.specs.Step.{step}
+use Rattle.machine_model.specs.Run.{Answer}
+use Rattle.machine_model.proofs.Scans.{clash}
+use Rattle.patch_check.specs.Rules.{KeepsRules}
+use Rattle.patch_check.specs.Reached.{Reached}
+use Rattle.patch_check.specs.Reached.Reached.{at-first, run-on}
+use Rattle.patch_check.specs.File.{checkOf, KeepsFile}
+use Rattle.patch_check.specs.Verdict as checked
+use Rattle.patch_check.specs.declared.verdict.Verdict.{Verdict}
+use Rattle.patch_check.proofs.File.{check-passes}
+use Rattle.patch_check.proofs.Safe.{Spared, safe-resumed}
+use Rattle.machine_step.specs.Held.{Held}
+use Rattle.machine_step.specs.View.{view}
+use Rattle.machine_step.specs.Decoded.{codeOf, givenOf}
+use Rattle.machine_step.specs.Fits.{Fits}
+use Rattle.machine_step.specs.Run.{Ran, runIn}
+use Rattle.machine_step.proofs.Decoded.{Bytes}
+use Rattle.machine_step.proofs.Runs.{run-seen}
+use Rattle.machine.specs.Answer.{numberOf}
+use Rattle.machine.specs.Fresh.{freshOf}
+use Rattle.machine.specs.Formed.{hasRoom, isFormed}
+use Rattle.machine.specs.Calls.{Shown, lent, stepIn, steppedTo, runOver, ranTo, freshOn, freshOver}
+use Rattle.machine.specs.declared.machine.Stepped.{Stepped}
+use Rattle.machine.specs.declared.machine.Ran as code
+use Rattle.machine.proofs.WellFormed.{formed-fits}
+use Rattle.machine.proofs.Started.{fresh-view, fresh-fits}
+use Rattle.demands.specs.Reached.{ReachedBy}
+use Rattle.demands.specs.Reached.ReachedBy.{after-fresh, after-run, after-step, lent-anew}
+use Rattle.demands.proofs.Kept.{run-fits, once-held, once-number}
+
+-- ---- a file that the check passes
+
+abbrev patchIn : List ℕ → List Op
+patchIn s = map (opAt s) (patchOf s .items)
+
+-- it is read, and the ops that a run is given keep the rules
+record Passed (s : List ℕ) : Type 0 where
+  good : eqb (patchOf s .number) 0 ≡ true
+  rules : KeepsRules (patchIn s)
+
+passed : (s : List ℕ) → KeepsFile s → Passed s
+passed s k =
+    byCase (eqb (patchOf s .number) 0)
+    (λ e. let w : ops (k .patch) ≡ ops (patchIn s) = sym (k .is) ∙ ops-are s (eqb-true (patchOf s .number) 0 e) in
+    let q : k .patch ≡ patchIn s = cc in
+    record { good = e; rules = subst (λ (os : List Op). KeepsRules os) q (k .rules) })
+    (λ e. let w : ops (k .patch) ≡ refused (patchOf s .number) (patchOf s .place) = sym (k .is) ∙ refused-are s (eqb-false (patchOf s .number) 0 e) in clash (cc))
+
+-- ---- what is held, and what is answered
+
+-- a well-formed state has room
+roomy : (ks : List ℕ) (n : ℕ) (c : Held) → isFormed ks n c ≡ true → hasRoom (c .register) (c .table) (c .channel) ≡ true
+unfolding isFormed
+roomy ks n c e = and-left _ _ (and-left _ _ (and-left _ _ (and-left _ _ (and-left _ _ e))))
+
+-- a number that is neither 20 nor 21
+other : (n : ℕ) → eqb n 20 ≡ false → eqb n 21 ≡ false → Spared n
+other n e f = (eqb-false n 20 e, eqb-false n 21 f)
+
+module _ (s : List ℕ) (y : Bytes s) (p : Passed s) where
+  -- the stacks are whole; where there is room, what is seen is a state that the model's runs of the patch come to
+  record Known (c : Held) : Type 0 where
+    call-room : length (c .calls) ≡ 256
+    ref-room : length (c .refs) ≡ 256
+    state : hasRoom (c .register) (c .table) (c .channel) ≡ true → Reached (patchIn s) (view c)
+
+  -- of a run's answer
+  record Sound (r : Ran) : Type 0 where
+    spared : Spared (r .number)
+    known : Known (r .held)
+
+  module _ (input : List ℕ) (b : ℕ) where
+    -- the steps of a run, which are the model's
+    runs : (c : Held) → Fits s input c → Reached (patchIn s) (view c) → Sound (runIn (givenOf s input (length (c .output))) b c)
+    unfolding givenOf
+    runs c h r =
+        let e = run-seen s input y b c h in
+        let k = run-fits s input y b c h .counted in
+        record {
+          spared = subst (λ (n : ℕ). Spared n) (sym (ap (λ (a : Answer). a .number) e)) (safe-resumed (patchIn s) (p .rules) (view c) r input (length (c .output)) b);
+          known = record {
+            call-room = k .call-room;
+            ref-room = k .ref-room;
+            state = λ f. subst (λ (t : State). Reached (patchIn s) t) (sym (ap (λ (a : Answer). a .state) e)) (run-on (view c) input (length (c .output)) b r);
+          };
+        }
+
+    -- the fresh run, and a run: their steps, or 37
+    fresh-sound : (g t ts ch o : List ℕ) → Sound (freshOver s input b g t ts ch o)
+    unfolding freshOver freshOf
+    fresh-sound g t ts ch o =
+        byCase (hasRoom g ts ch)
+        (λ e. rw (p .good, e)
+        (runs (freshOn g t ts ch o) (fresh-fits g t ts ch o e s input y) (subst (λ (q : State). Reached (patchIn s) q) (sym (fresh-view g t ts ch o e)) (at-first (length t)))))
+        (λ e. rw (p .good, e)
+        (record {
+          spared = other 37 refl refl;
+          known = record { call-room = length-replicate {A = ℕ} 256 0; ref-room = length-replicate {A = ℕ} 256 0; state = λ f. clash (cc) };
+        }))
+
+    run-sound : (c : Held) → Known c → Sound (runOver s input b c)
+    unfolding runOver
+    run-sound c k =
+        byCase (isFormed (codeOf s .kinds) (length input) c)
+        (λ e. rw (p .good, e) (runs c (formed-fits s input c (k .call-room) (k .ref-room) e) (k .state (roomy (codeOf s .kinds) (length input) c e))))
+        (λ e. rw (p .good, e) (record { spared = other 37 refl refl; known = k }))
+
+  module _ (input : List ℕ) (c : Held) where
+    -- a step leaves what a run of budget 1 does, and has its number, or 0
+    step-held : stepIn s input c .held ≡ runOver s input 1 c .held
+    unfolding stepIn runOver runIn
+    step-held =
+        let g = givenOf s input (length (c .output)) in
+        byCase (isFormed (codeOf s .kinds) (length input) c)
+        (λ e. rw (p .good, e) (sym (once-held g c (step g (view c)))))
+        (λ e. rw (p .good, e) refl)
+
+    step-spared : Spared (runOver s input 1 c .number) → Spared (stepIn s input c .number)
+    unfolding stepIn runOver runIn
+    step-spared =
+        let g = givenOf s input (length (c .output)) in
+        byCase (isFormed (codeOf s .kinds) (length input) c)
+        (λ e. rw (p .good, e) (once-number g (λ n. Spared n) c (step g (view c)) (other 0 refl refl)))
+        (λ e. rw (p .good, e) (λ h. h))
+
+  -- what calls leave
+  reached : (c : Held) → ReachedBy s c → Known c
+  reached c (after-fresh input b g t ts ch o) = fresh-sound input b g t ts ch o .known
+  reached c (after-run d input b r) = run-sound input b d (reached d r) .known
+  reached c (after-step d input r) = subst (λ (h : Held). Known h) (sym (step-held input d)) (run-sound input 1 d (reached d r) .known)
+  reached c (lent-anew m g t ts ch o g′ t′ ts′ ch′ o′ r e q) =
+      let k = reached (lent m g t ts ch o) r in
+      record { call-room = k .call-room; ref-room = k .ref-room; state = λ f. subst (λ (u : State). Reached (patchIn s) u) (sym q) (k .state e) }
+
+-- ---- demand 3
+
+-- for every byte string s that `check` answers with number 0, whatever register, tape, table, channel and output a fresh run of it is lent,
+-- and whatever input and budget it is given, its number is neither 20 nor 21: v and r meet the contracts of `check` and `run_fresh`
+pub demand3 : (s : List ℕ) → Bytes s → (v : Verdict) → v ≡ checkOf s → checked.numberOf v ≡ 0
+    → (input : List ℕ) (budget : ℕ) (g t ts ch o : List ℕ) (r : code.Ran) (g′ t′ ts′ ch′ o′ : List ℕ)
+    → ranTo r g′ t′ ts′ ch′ o′ ≡ freshOver s input budget g t ts ch o → Spared (numberOf (r .answer))
+demand3 s y v e z input b g t ts ch o r g′ t′ ts′ ch′ o′ q =
+    subst (λ (n : ℕ). Spared n) (sym (ap (λ (a : Ran). a .number) q)) (fresh-sound s y (passed s (check-passes s v e .0 z)) input b g t ts ch o .spared)
+
+-- nor is that of a run that takes up what calls on the file left: r meets the contract of `run`
+pub demand3-resumed : (s : List ℕ) → Bytes s → (v : Verdict) → v ≡ checkOf s → checked.numberOf v ≡ 0
+    → (c : Held) → ReachedBy s c → (input : List ℕ) (budget : ℕ) (r : code.Ran) (g t ts ch o : List ℕ)
+    → ranTo r g t ts ch o ≡ runOver s input budget c → Spared (numberOf (r .answer))
+demand3-resumed s y v e z c h input b r g t ts ch o q =
+    let p = passed s (check-passes s v e .0 z) in
+    subst (λ (n : ℕ). Spared n) (sym (ap (λ (a : Ran). a .number) q)) (run-sound s y p input b c (reached s y p c h) .spared)
+
+-- nor is that of a step: r meets the contract of `step`
+pub demand3-step : (s : List ℕ) → Bytes s → (v : Verdict) → v ≡ checkOf s → checked.numberOf v ≡ 0
+    → (c : Held) → ReachedBy s c → (input : List ℕ) (r : Stepped) (g t ts ch o : List ℕ)
+    → steppedTo r g t ts ch o ≡ stepIn s input c → Spared (numberOf (r .answer))
+demand3-step s y v e z c h input r g t ts ch o q =
+    let p = passed s (check-passes s v e .0 z) in
+    subst (λ (n : ℕ). Spared n) (sym (ap (λ (a : Shown). a .number) q)) (step-spared s y p input c (run-sound s y p input 1 c (reached s y p c h) .spared))

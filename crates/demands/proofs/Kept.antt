@@ -1,0 +1,59 @@
+-- What a run leaves fits the patch as what it began with did, and a step is a run of budget 1. Assumes nothing.
+use mathlib.Core.Path.{_≡_, _∙_, refl, ap}
+use mathlib.Core.List.{List}
+use Prim.Native.Nat.{ℕ, zero, suc}
+use lib.ListN.{length}
+use Rattle.machine_model.specs.State.{Given}
+use Rattle.machine_model.specs.Step.{Outcome, step}
+use Rattle.machine_model.specs.Step.Outcome.{finished, refused, next}
+use Rattle.machine_model.proofs.Kept.{step-formed}
+use Rattle.machine_step.specs.Held.{Held}
+use Rattle.machine_step.specs.View.{view, lay, laid}
+use Rattle.machine_step.specs.Decoded.{givenOf}
+use Rattle.machine_step.specs.Fits.{Fits}
+use Rattle.machine_step.specs.Run.{driveIn, runIn}
+use Rattle.machine_step.proofs.Over.{lay-room}
+use Rattle.machine_step.proofs.Decoded.{Bytes, limited}
+use Rattle.machine_step.proofs.Runs.{lay-fits}
+
+-- ---- a run
+
+module _ (s input : List ℕ) (y : Bytes s) where
+  drive-fits : (room n k : ℕ) (c : Held) (o : Outcome) → Fits s input c → length (c .output) ≡ room → step (givenOf s input room) (view c) ≡ o
+      → Fits s input (driveIn (givenOf s input room) n k c o .held)
+  unfolding driveIn givenOf
+  drive-fits room zero k c finished h r e = h
+  drive-fits room zero k c (refused m) h r e = h
+  drive-fits room zero k c (next t) h r e = h
+  drive-fits room (suc n) k c finished h r e = h
+  drive-fits room (suc n) k c (refused m) h r e = h
+  drive-fits room (suc n) k c (next t) h r e =
+      let own = length (c .output) in
+      let f = step-formed (givenOf s input own) (limited s y input own) (view c) t (h .formed) (ap (λ (m : ℕ). step (givenOf s input m) (view c)) r ∙ e) in
+      drive-fits room n (suc k) (lay t c) _ (lay-fits s input t c h f) (lay-room t c (f .fits) ∙ r) refl
+
+  pub run-fits : (n : ℕ) (c : Held) → Fits s input c → Fits s input (runIn (givenOf s input (length (c .output))) n c .held)
+  unfolding runIn
+  run-fits n c h = drive-fits (length (c .output)) n 0 c _ h refl refl
+
+-- ---- a step
+
+module _ (g : Given) where
+  spent-held : (k : ℕ) (c : Held) (o : Outcome) → driveIn g 0 k c o .held ≡ c
+  unfolding driveIn
+  spent-held k c finished = refl
+  spent-held k c (refused n) = refl
+  spent-held k c (next t) = refl
+
+  pub once-held : (c : Held) (o : Outcome) → driveIn g 1 0 c o .held ≡ laid c o .held
+  unfolding driveIn
+  once-held c finished = refl
+  once-held c (refused n) = refl
+  once-held c (next t) = spent-held 1 (lay t c) (step g (view (lay t c)))
+
+  -- what holds of 0 and of that run's number holds of the step's
+  pub once-number : (P : ℕ → Type 0) (c : Held) (o : Outcome) → P 0 → P (driveIn g 1 0 c o .number) → P (laid c o .number)
+  unfolding driveIn
+  once-number P c finished z h = h
+  once-number P c (refused n) z h = h
+  once-number P c (next t) z h = z

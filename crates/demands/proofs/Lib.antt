@@ -1,0 +1,3 @@
+-- The theorems on the exported operations, after the laws behind them.
+pub mod Kept
+pub mod Demand3

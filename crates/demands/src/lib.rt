@@ -1,0 +1,1 @@
+// What the exported operations promise together, as theorems on their contracts (proofs/), with no code.

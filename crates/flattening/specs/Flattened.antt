@@ -1,0 +1,104 @@
+-- What flattening a patch file answers, and what it leaves of the lent bytes and of the lent lists of entries. Assumes nothing.
+use Prim.Native.Nat.{ℕ}
+use mathlib.Core.Bool.{Bool, cond, _||_}
+use mathlib.Core.List.{List, [], map}
+use lib.Dec.{ltb}
+use lib.ListN.{length}
+use Rattle.ops.specs.Op.{Op}
+use Rattle.ops.specs.Ops.{Patch, opsOf}
+use Rattle.ops.specs.Ops.Patch.{ops, refused}
+use Rattle.ops.specs.Storage.{fill}
+use Rattle.ops.specs.Write.{encodeAll, marksIn}
+use Rattle.flattening.specs.Flatten.{Body, Flat, flatten}
+use Rattle.flattening.specs.Flatten.Flat.{loose, flat}
+use Rattle.flattening.specs.declared.answer.Flattened.{Flattened}
+use Rattle.flattening.specs.declared.answer.Flattened.the-variants.{BadFile, NoOpenEnd, NoRoom, Written}
+
+-- the first column of 'Numbers given back'
+abbrev pub numberOf : Flattened → ℕ
+numberOf (BadFile n p) = n
+numberOf (NoOpenEnd i) = 10
+numberOf NoRoom = 40
+numberOf (Written n b k) = 0
+
+-- its last column: a bad file's byte, the op, 0, "op count .. the result's if written"
+abbrev pub placeOf : Flattened → ℕ
+placeOf (BadFile n p) = p
+placeOf (NoOpenEnd i) = i
+placeOf NoRoom = 0
+placeOf (Written n b k) = n
+
+-- "Written, the byte length is given too"
+abbrev pub bytesOf : Flattened → ℕ
+bytesOf (BadFile n p) = 0
+bytesOf (NoOpenEnd i) = 0
+bytesOf NoRoom = 0
+bytesOf (Written n b k) = b
+
+-- the entries of "the caller's list"
+abbrev pub bodiesOf : Flattened → ℕ
+bodiesOf (BadFile n p) = 0
+bodiesOf (NoOpenEnd i) = 0
+bodiesOf NoRoom = 0
+bodiesOf (Written n b k) = k
+
+-- the ops of a file; none of a bad one
+abbrev pub held : Patch → List Op
+held (ops os) = os
+held (refused n p) = []
+
+unfoldable pub opsIn : List ℕ → List Op
+opsIn s = held (opsOf s)
+
+-- "an entry of number, first op and op count"
+abbrev pub numberIn : Body → ℕ
+numberIn b = b .named-by
+
+abbrev pub firstIn : Body → ℕ
+firstIn b = b .first
+
+abbrev pub countIn : Body → ℕ
+countIn b = b .count
+
+-- the answer, the lent bytes, and the three lent lists
+pub record Outcome : Type 0 where
+  pub answer : Flattened
+  pub out : List ℕ
+  pub numbers : List ℕ
+  pub firsts : List ℕ
+  pub counts : List ℕ
+
+abbrev pub outcome : Flattened → List ℕ → List ℕ → List ℕ → List ℕ → Outcome
+outcome a o ns fs cs = record { answer = a; out = o; numbers = ns; firsts = fs; counts = cs }
+
+module _ (s o ns fs cs : List ℕ) where
+  -- "bytes and entries beyond the result keep their values"
+  abbrev pub written : List Op → List Body → Outcome
+  written gs bs =
+      outcome (Written (length gs) (length (encodeAll gs)) (length bs))
+      (fill (encodeAll gs) o)
+      (fill (map numberIn bs) ns)
+      (fill (map firstIn bs) fs)
+      (fill (map countIn bs) cs)
+
+  -- "Refused, both write nothing"
+  abbrev pub untouched : Flattened → Outcome
+  untouched a = outcome a o ns fs cs
+
+  -- "40, which is given exactly when the byte room is below the file's length or the body list is below the number of marks"
+  abbrev pub tooShort : ℕ → Bool
+  tooShort m = ltb (length o) (length s) || (ltb (length ns) m || (ltb (length fs) m || ltb (length cs) m))
+
+  -- "Flatten: 10, then 40"
+  abbrev pub ofFlat : ℕ → Flat → Outcome
+  ofFlat m (loose p) = untouched (NoOpenEnd p)
+  ofFlat m (flat gs bs) = cond (tooShort m) (untouched NoRoom) (written gs bs)
+
+  -- "Every public call reads the patch first"
+  abbrev pub ofPatch : Patch → Outcome
+  ofPatch (refused n p) = untouched (BadFile n p)
+  ofPatch (ops os) = ofFlat (marksIn os) (flatten os)
+
+  unfoldable pub flattenOf : Outcome
+  unfolding opsOf flatten
+  flattenOf = ofPatch (opsOf s)

@@ -1,0 +1,40 @@
+-- `machine_ops::place::Place::end` meets its contract. Assumes nothing.
+use borrow.Author.Tests.{le-leb, lt-leb, eq-eqb, ne-eqb}
+use Rattle.machine_ops.specs.Control.{endsOf}
+use Rattle.machine_ops.specs.Place.{pick}
+use borrow.Author.Needs.{needs}
+use Rattle.machine_ops.proofs.place.Place.end.Statement.{statement}
+use Rattle.machine_ops.proofs.place.Place.end.Tie as tie
+
+returns : tie.Need-returns
+unfolding endsOf pick
+returns c = simp (eq-eqb _ _ (c .before .if1 .taken), c .next .ensures)
+
+returns-2 : tie.Need-returns-2
+unfolding endsOf pick
+returns-2 c = simp (le-leb _ _ (c .before .if2 .taken), ne-eqb _ _ (c .before .before .before .if1 .left), c .next2 .ensures, ← c .before .before .get-matching-for-end .ensures)
+
+returns-3 : tie.Need-returns-3
+unfolding endsOf pick
+returns-3 c = simp (eq-eqb _ _ (c .before .if3 .taken), lt-leb _ _ (c .before .before .before .if2 .left), ne-eqb _ _ (c .before .before .before .before .before .if1 .left), c .goto .ensures, ← c .before .before .before .before .get-matching-for-end .ensures)
+
+returns-4 : tie.Need-returns-4
+unfolding endsOf pick
+returns-4 c = simp (ne-eqb _ _ (c .before .if3 .left), lt-leb _ _ (c .before .before .before .if2 .left), ne-eqb _ _ (c .before .before .before .before .before .if1 .left), c .next3 .ensures, ← c .before .before .before .before .get-matching-for-end .ensures)
+
+pub end-spec : {M : Type 1} → statement M
+end-spec =
+    tie.close
+    (tie.spec
+    (λ c. search needs)
+    (λ c κs. search needs)
+    returns
+    (λ c κs. search needs)
+    (λ c κs. search needs)
+    returns-2
+    (λ c. search needs)
+    (λ c. search needs)
+    (λ c κs. search needs)
+    returns-3
+    (λ c κs. search needs)
+    returns-4)

@@ -1,0 +1,30 @@
+-- `machine_ops::place::Place::function` meets its contract. Assumes nothing.
+use borrow.Author.Tests.{le-leb, lt-leb}
+use Rattle.machine_ops.specs.Control.{functionOf}
+use Rattle.machine_ops.specs.Place.{pick}
+use borrow.Author.Needs.{needs}
+use Rattle.machine_ops.proofs.place.Place.function.Statement.{statement}
+use Rattle.machine_ops.proofs.place.Place.function.Tie as tie
+
+returns : tie.Need-returns
+unfolding functionOf pick
+returns c = simp (le-leb _ _ (c .before .if1 .taken), c .refuse .ensures, ← c .before .before .jmp-to-end .ensures)
+
+returns-2 : tie.Need-returns-2
+unfolding functionOf pick
+returns-2 c = simp (lt-leb _ _ (c .before .before .before .before .before .if1 .left), c .goto .ensures, c .before .before .before .enter .ensures .0, c .before .before .before .enter .ensures .1, ← c .before .before .before .before .before .before .jmp-to-end .ensures)
+
+pub function-spec : {M : Type 1} → statement M
+function-spec =
+    tie.close
+    (tie.spec
+    (λ c. search needs)
+    (λ c κs. search needs)
+    (λ c κs. search needs)
+    returns
+    (λ c. search needs)
+    (λ c κs. search needs)
+    (λ c. search needs)
+    (λ c κs. search needs)
+    (λ c. search needs)
+    returns-2)

@@ -1,0 +1,27 @@
+-- `machine_ops::place::Place::if_op` meets its contract. Assumes nothing.
+use borrow.Author.Tests.{eq-eqb, ne-eqb}
+use Rattle.machine_ops.specs.Control.{ifOf}
+use Rattle.machine_ops.specs.Place.{pick}
+use borrow.Author.Needs.{needs}
+use Rattle.machine_ops.proofs.place.Place.if_op.Statement.{statement}
+use Rattle.machine_ops.proofs.place.Place.if_op.Tie as tie
+
+returns : tie.Need-returns
+unfolding ifOf pick
+returns c = simp (eq-eqb _ _ (c .before .before .if1 .taken), c .jump .ensures, ← c .before .jmp-to-else .ensures)
+
+returns-2 : tie.Need-returns-2
+unfolding ifOf pick
+returns-2 c = simp (ne-eqb _ _ (c .before .if1 .left), c .next .ensures)
+
+pub if-op-spec : {M : Type 1} → statement M
+if-op-spec =
+    tie.close
+    (tie.spec
+    (λ c. search needs)
+    (λ c. search needs)
+    (λ c κs. search needs)
+    (λ c κs. search needs)
+    returns
+    (λ c κs. search needs)
+    returns-2)

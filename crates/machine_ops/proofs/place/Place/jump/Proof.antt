@@ -1,0 +1,18 @@
+-- `machine_ops::place::Place::jump` meets its contract. Assumes nothing.
+use borrow.Author.Tests.{lt-leb, le-leb}
+use Rattle.machine_ops.specs.Control.{jumpOf}
+use Rattle.machine_ops.specs.Place.{pick}
+use borrow.Author.Needs.{needs}
+use Rattle.machine_ops.proofs.place.Place.jump.Statement.{statement}
+use Rattle.machine_ops.proofs.place.Place.jump.Tie as tie
+
+returns : tie.Need-returns
+unfolding jumpOf pick
+returns c = simp (le-leb _ _ (c .before .if1 .taken), c .refuse .ensures)
+
+returns-2 : tie.Need-returns-2
+unfolding jumpOf pick
+returns-2 c = simp (lt-leb _ _ (c .before .if1 .left), c .goto .ensures)
+
+pub jump-spec : {M : Type 1} → statement M
+jump-spec = tie.close (tie.spec (λ c κs. search needs) returns (λ c. search needs) (λ c κs. search needs) returns-2)

@@ -1,0 +1,28 @@
+-- `machine_ops::place::Place::refer` meets its contract. Assumes nothing.
+use borrow.Author.Tests.{eq-eqb, ne-eqb}
+use Rattle.machine_ops.specs.Tape.{referOf}
+use Rattle.machine_ops.specs.Place.{pick}
+use borrow.Author.Needs.{needs}
+use Rattle.machine_ops.proofs.place.Place.refer.Statement.{statement}
+use Rattle.machine_ops.proofs.place.Place.refer.Tie as tie
+
+returns : tie.Need-returns
+unfolding referOf pick
+returns c = simp (eq-eqb _ _ (c .before .if1 .taken), c .refuse .ensures)
+
+returns-2 : tie.Need-returns-2
+unfolding referOf pick
+returns-2 c = simp (ne-eqb _ _ (c .before .before .before .if1 .left), c .before .wide32 .ensures .0, c .next .ensures)
+
+pub refer-spec : {M : Type 1} → statement M
+refer-spec =
+    tie.close
+    (tie.spec
+    (λ c κs. search needs)
+    returns
+    (λ c. search needs)
+    (λ c. search needs)
+    (λ c. search needs)
+    (λ c κs. search needs)
+    (λ c κs. search needs)
+    returns-2)

@@ -1,0 +1,35 @@
+-- The one row of Offset's family. Assumes nothing.
+use mathlib.Core.Path.{_≡_, refl}
+use mathlib.Core.Bool.{Bool, true, false}
+use Prim.Native.Nat.{ℕ}
+use native.Mathlib.Omega.{arith}
+use borrow.Author.Tests.{eqb-true, eqb-false}
+use lib.Dec.{eqb, ltb}
+use Rattle.machine_ops.specs.Place.{pick}
+use Rattle.machine_step.specs.Family.{familyOf}
+
+-- a test whose first answer is another family's
+past : (b : Bool) (x y : ℕ) → eqb x 5 ≡ false → pick b x y ≡ 5 → y ≡ 5
+unfolding pick
+past true x y n e = absurd (eqb-false x 5 n e)
+past false x y n e = e
+
+-- the test whose first answer is this family, where no later answer is
+found : (b : Bool) (y : ℕ) → pick b 5 y ≡ 5 → (y ≡ 5 → ⊥) → b ≡ true
+unfolding pick
+found true y e n = refl
+found false y e n = absurd (n e)
+
+none-left : _≡_ {A = ℕ} 0 5 → ⊥
+none-left e = omega arith
+
+pub offset-row : (k : ℕ) → familyOf k ≡ 5 → k ≡ 16
+unfolding familyOf pick
+offset-row k e =
+    eqb-true k 16
+    (found (eqb k 16) _ (past (ltb k 15) 0 _ refl (past (ltb k 9) 1 _ refl (past (ltb k 2) 0 _ refl e)))
+    (λ f. none-left
+    (past (eqb k 60) 4 _ refl (past (eqb k 59) 4 _ refl (past (ltb k 52) 3 _ refl (past (ltb k 50) 2 _ refl
+    (past (ltb k 45) 3 _ refl (past (ltb k 43) 0 _ refl (past (ltb k 40) 4 _ refl (past (eqb k 37) 3 _ refl
+    (past (eqb k 36) 6 _ refl (past (ltb k 36) 3 _ refl (past (ltb k 33) 2 _ refl (past (eqb k 27) 3 _ refl
+    (past (eqb k 21) 3 _ refl f)))))))))))))))

@@ -1,0 +1,177 @@
+-- A run as the code makes it is the model's run, laid after each step; and what is seen of it is the model's answer. Assumes nothing.
+use mathlib.Core.Path.{_≡_, _∙_, refl, ap, sym, subst}
+use mathlib.Core.Bool.{Bool, true, false, _||_}
+use mathlib.Core.List.{List}
+use Prim.Native.Nat.{ℕ, zero, suc, _≤_, _<_}
+use lib.Dec.{leb}
+use lib.ListN.{length}
+use borrow.Author.Tests.{leb-false}
+use Rattle.testing_device.proofs.Words.{byCase}
+use Rattle.machine_model.specs.State.{State, Given, fresh}
+use Rattle.machine_model.specs.Step.{Outcome, step}
+use Rattle.machine_model.specs.Step.Outcome.{finished, refused, next}
+use Rattle.machine_model.specs.Run.{drive, run}
+use Rattle.machine_model.specs.Formed.{Formed}
+use Rattle.machine_model.proofs.Kept.{step-formed, fresh-formed}
+use Rattle.machine_model.proofs.Outcomes.{or-right}
+use Rattle.machine_ops.specs.Place.{pick}
+use Rattle.machine_step.specs.Held.{Held}
+use Rattle.machine_step.specs.Step.{stepOf}
+use Rattle.machine_step.specs.View.{view, lay, laid}
+use Rattle.machine_step.specs.Decoded.{codeOf, givenOf}
+use Rattle.machine_step.specs.Fits.{Fits}
+use Rattle.machine_step.specs.Run.{ran, driveIn, runIn, seen, isOver, runOf}
+use Rattle.machine_step.proofs.Over.{view-lay, lay-counted, lay-room}
+use Rattle.machine_step.proofs.Decoded.{Bytes, rows, limited}
+use Rattle.machine_step.proofs.Real.{Real, step-real, step-over}
+use Rattle.machine_step.proofs.Real.Real.{goes, stops}
+use Rattle.machine_step.proofs.Steps.{step-is}
+
+or-left : (a b : Bool) → (a || b) ≡ false → a ≡ false
+or-left true b e = e
+or-left false b e = refl
+
+-- ---- what a step hands to the next
+
+module _ (s input : List ℕ) where
+  -- a state of the patch, laid over what is as large as its limits
+  lay-over : (t : State) (c : Held) → 1024 ≤ length (c .register) → 256 ≤ length (c .table) → 256 ≤ length (c .channel) → length (c .calls) ≡ 256 → length (c .refs) ≡ 256
+      → Formed (givenOf s input (length (c .output))) t → Fits s input (lay t c)
+  unfolding givenOf
+  lay-over t c w u r kc kr f =
+      record {
+        counted = lay-counted t c (f .few-calls) (f .few-refs) (f .few-sent) (f .fits) w u r kc kr;
+        formed = rw (lay-room t c (f .fits), view-lay t c (f .few-sent) r) f;
+      }
+
+  -- a state of the patch laid over what fits it fits it
+  pub lay-fits : (t : State) (c : Held) → Fits s input c → Formed (givenOf s input (length (c .output))) t → Fits s input (lay t c)
+  lay-fits t c h f = let k = h .counted in lay-over t c (k .wide) (k .tabled) (k .ringed) (k .call-room) (k .ref-room) f
+
+  module _ (b : Bytes s) where
+    -- and so does the next state of a step
+    pub step-fits : (t : State) (c : Held) → Fits s input c → step (givenOf s input (length (c .output))) (view c) ≡ next t → Fits s input (lay t c)
+    step-fits t c h e = lay-fits t c h (step-formed (givenOf s input (length (c .output))) (limited s b input (length (c .output))) (view c) t (h .formed) e)
+
+    laid-fits : (c : Held) (o : Outcome) → Fits s input c → step (givenOf s input (length (c .output))) (view c) ≡ o → Fits s input (laid c o .held)
+    laid-fits c finished h e = h
+    laid-fits c (refused n) h e = h
+    laid-fits c (next t) h e = step-fits t c h e
+
+    -- what the code's step leaves fits, refused or not
+    pub held-fits : (c : Held) → Fits s input c → c .place .position < length (codeOf s .kinds) → c .place .halted ≡ false → Fits s input (stepOf (codeOf s) input c .held)
+    held-fits c h here e = rw (step-is s input c h here e) (laid-fits c _ h refl)
+
+    module _ (room : ℕ) where
+      abbrev given : Given
+      given = givenOf s input room
+
+      -- what is held fits, and its output has the room that the run is given
+      record Sound (c : Held) : Type 0 where
+        fits : Fits s input c
+        roomy : length (c .output) ≡ room
+
+      formed : (c : Held) → Sound c → Formed given (view c)
+      formed c h = subst (λ (r : ℕ). Formed (givenOf s input r) (view c)) (h .roomy) (h .fits .formed)
+
+      next-formed : (c : Held) (t : State) → Sound c → step given (view c) ≡ next t → Formed given t
+      next-formed c t h e = step-formed given (limited s b input room) (view c) t (formed c h) e
+
+      sound-next : (c : Held) (t : State) → Sound c → step given (view c) ≡ next t → Sound (lay t c)
+      unfolding givenOf
+      sound-next c t h e =
+          let f = next-formed c t h e in
+          record {
+            fits = lay-fits t c (h .fits) (subst (λ (r : ℕ). Formed (givenOf s input r) t) (sym (h .roomy)) f);
+            roomy = lay-room t c (rw (h .roomy) (f .fits)) ∙ h .roomy;
+          }
+
+      seen-next : (c : Held) (t : State) → Sound c → step given (view c) ≡ next t → view (lay t c) ≡ t
+      seen-next c t h e = view-lay t c (next-formed c t h e .few-sent) (h .fits .counted .ringed)
+
+      -- ---- the step's first test
+
+      over : Held → Bool
+      over c = isOver (codeOf s) c
+
+      over-is : (c : Held) → (c .place .halted || leb (length (given .ops)) (c .place .position)) ≡ over c
+      unfolding over
+      over-is c = ap (λ (n : ℕ). c .place .halted || leb n (c .place .position)) (rows s input room .many)
+
+      code-over : (n k : ℕ) (c : Held) → over c ≡ true → runOf n k (codeOf s) input c ≡ ran 0 k c
+      unfolding runOf pick over
+      code-over zero k c e = rw e refl
+      code-over (suc n) k c e = rw e refl
+
+      in-over : (n k : ℕ) (c : Held) (o : Outcome) → o ≡ finished → driveIn given n k c o ≡ ran 0 k c
+      unfolding driveIn
+      in-over zero k c o e = rw e refl
+      in-over (suc n) k c o e = rw e refl
+
+      spent : (k : ℕ) (c : Held) → over c ≡ false → (o : Outcome) → Real o → runOf 0 k (codeOf s) input c ≡ driveIn given 0 k c o
+      unfolding runOf pick driveIn over
+      spent k c e _ (goes t) = rw e refl
+      spent k c e _ (stops n z) = rw e refl
+
+      turns : (n k : ℕ) (c : Held) → over c ≡ false
+          → ((t : State) → step given (view c) ≡ next t → runOf n (suc k) (codeOf s) input (lay t c) ≡ driveIn given n (suc k) (lay t c) (step given (view (lay t c))))
+          → (o : Outcome) → Real o → step given (view c) ≡ o → stepOf (codeOf s) input c ≡ laid c o
+          → runOf (suc n) k (codeOf s) input c ≡ driveIn given (suc n) k c o
+      unfolding runOf pick driveIn over
+      turns n k c e less _ (goes t) q r = rw (e, r) (less t q)
+      turns n k c e less _ (stops m z) q r = rw (e, r, z) refl
+
+      ended : (c : Held) → over c ≡ true → step given (view c) ≡ finished
+      ended c e = step-over given (view c) (over-is c ∙ e)
+
+      real : (c : Held) → over c ≡ false → Real (step given (view c))
+      real c e = step-real given (view c) (over-is c ∙ e)
+
+      stepped : (c : Held) → Sound c → over c ≡ false → stepOf (codeOf s) input c ≡ laid c (step given (view c))
+      unfolding over
+      stepped c h e =
+          step-is s input c (h .fits) (leb-false (length (codeOf s .kinds)) (c .place .position) (or-right (c .place .halted) _ e)) (or-left (c .place .halted) _ e)
+          ∙ ap (λ (r : ℕ). laid c (step (givenOf s input r) (view c))) (h .roomy)
+
+      -- ---- the run
+
+      drives : (n k : ℕ) (c : Held) → Sound c → runOf n k (codeOf s) input c ≡ driveIn given n k c (step given (view c))
+      drives zero k c h =
+          byCase (over c)
+          (λ e. code-over 0 k c e ∙ sym (in-over 0 k c _ (ended c e)))
+          (λ e. spent k c e _ (real c e))
+      drives (suc n) k c h =
+          byCase (over c)
+          (λ e. code-over (suc n) k c e ∙ sym (in-over (suc n) k c _ (ended c e)))
+          (λ e. turns n k c e (λ t q. drives n (suc k) (lay t c) (sound-next c t h q)) _ (real c e) refl (stepped c h e))
+
+      shows : (n k : ℕ) (c : Held) (o : Outcome) → Sound c → step given (view c) ≡ o → seen (driveIn given n k c o) ≡ drive given n k (view c) o
+      unfolding driveIn drive
+      shows zero k c finished h q = refl
+      shows zero k c (refused m) h q = refl
+      shows zero k c (next t) h q = refl
+      shows (suc n) k c finished h q = refl
+      shows (suc n) k c (refused m) h q = refl
+      shows (suc n) k c (next t) h q =
+          shows n (suc k) (lay t c) (step given (view (lay t c))) (sound-next c t h q) refl
+          ∙ ap (λ (u : State). drive given n (suc k) u (step given u)) (seen-next c t h q)
+
+    -- the code's run is the model's run, laid after each step
+    pub run-laid : (n : ℕ) (c : Held) → Fits s input c → runOf n 0 (codeOf s) input c ≡ runIn (givenOf s input (length (c .output))) n c
+    unfolding runIn
+    run-laid n c h = drives (length (c .output)) n 0 c (record { fits = h; roomy = refl })
+
+    -- and what is seen of that is the model's answer
+    pub run-seen : (n : ℕ) (c : Held) → Fits s input c → seen (runIn (givenOf s input (length (c .output))) n c) ≡ run (givenOf s input (length (c .output))) n (view c)
+    unfolding runIn run
+    run-seen n c h = shows (length (c .output)) n 0 c _ (record { fits = h; roomy = refl }) refl
+
+  -- ---- the fresh run
+
+  -- the fresh state fits, laid over what is as large as the limits
+  pub fresh-fits : (cells : ℕ) (c : Held) → 1024 ≤ length (c .register) → 256 ≤ length (c .table) → 256 ≤ length (c .channel) → length (c .calls) ≡ 256 → length (c .refs) ≡ 256
+      → Fits s input (lay (fresh cells) c)
+  fresh-fits cells c w u r kc kr = lay-over (fresh cells) c w u r kc kr (fresh-formed (givenOf s input (length (c .output))) cells)
+
+  pub fresh-seen : (cells : ℕ) (c : Held) → 256 ≤ length (c .channel) → view (lay (fresh cells) c) ≡ fresh cells
+  fresh-seen cells c r = view-lay (fresh cells) c (fresh-formed (givenOf s input 0) cells .few-sent) r
