@@ -1,0 +1,30 @@
+-- `replay::state::calls_at` is safe and ends: the measure is the calls that are left. Assumes nothing.
+use borrow.Author.Needs.{needs}
+use Prim.Native.Nat.{_-_, _≤_}
+use Rattle.replay.proofs.state.calls_at.Statement.{statement}
+use Rattle.replay.proofs.state.calls_at.Tie as tie
+
+abbrev Inv-loop : tie.InvT-loop
+Inv-loop case at n calls₀ from₀ i₀ calls from i = i ≤ n
+
+abbrev μ-loop : tie.MeasureT-loop
+μ-loop case at n calls₀ from₀ i₀ calls from i = n - i
+
+pub calls-at-spec : {M : Type 1} → statement M
+calls-at-spec =
+    tie.close
+    (tie.spec
+    Inv-loop
+    μ-loop
+    (λ c κs. search needs)
+    (λ c. search needs)
+    (λ c. search needs)
+    (λ c κs. search needs)
+    (λ c. search needs)
+    (λ c. search needs)
+    (λ c. search needs)
+    (λ c κs. search needs)
+    (λ c. search needs)
+    (λ c. search needs)
+    (λ c. search needs)
+    (λ c. search needs))
