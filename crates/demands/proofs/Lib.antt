@@ -1,3 +1,4 @@
 -- The theorems on the exported operations, after the laws behind them.
 pub mod Kept
 pub mod Demand3
+pub mod Coincide
