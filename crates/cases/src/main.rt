@@ -187,9 +187,23 @@ fn show_flatten(head: &[u8; 16], file: &[u8]) {
     let mut firsts = [0u32; 64];
     let mut counts = [0u32; 64];
     let room = of_bytes(u16_at(head, 8), &out);
-    let r = flattening::flatten::flatten(file, &mut out[..room], &mut numbers, &mut firsts, &mut counts);
-    show_answer(b" flatten", flattening::answer::number_of(r), flattening::answer::place_of(r));
-    if let Flattened::Written { ops: _, bytes, bodies } = r {
+    let r = flattening::flatten::flatten(
+        file,
+        &mut out[..room],
+        &mut numbers,
+        &mut firsts,
+        &mut counts,
+    );
+    show_answer(
+        b" flatten",
+        flattening::answer::number_of(r),
+        flattening::answer::place_of(r),
+    );
+    if let Flattened::Written {
+        ops: _,
+        bytes,
+        bodies,
+    } = r {
         show_bodies(&numbers, &firsts, &counts, bodies);
         show_bytes(&out, bytes);
     }

@@ -35,7 +35,10 @@ pub fn show_damage(found: Found, n: u32) {
         Found::Damaged => {
             io::write_all(1, b"damaged");
             streams::print::number(n as usize);
-            io::write_all(1, b": this case is cut short, too long or not in the form of a list\n");
+            io::write_all(
+                1,
+                b": this case is cut short, too long or not in the form of a list\n",
+            );
         }
         Found::Agrees => {}
         Found::Differs => {}

@@ -7,6 +7,7 @@ mod state; // a machine
 mod slices; // what is expected of lent storage
 mod run; // runs, fresh and from a state
 mod shape; // joins and flattenings
+
 use crate::found::Found;
 use crate::found::agreeing;
 use crate::found::is_case;
@@ -57,7 +58,14 @@ fn work(tell: Tell, sort: u8, file: &mut [u8], case: &mut [u8]) -> Found {
 }
 
 // A case of this sort, with so many bytes of a patch and so many after them.
-fn take(tell: Tell, sort: u8, bytes: usize, after: usize, file: &mut [u8], case: &mut [u8]) -> Found {
+fn take(
+    tell: Tell,
+    sort: u8,
+    bytes: usize,
+    after: usize,
+    file: &mut [u8],
+    case: &mut [u8],
+) -> Found {
     let n = of_bytes(bytes, file);
     let m = of_bytes(after, case);
     work(tell, sort, &mut file[..n], &mut case[..m])

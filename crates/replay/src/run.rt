@@ -55,7 +55,11 @@ fn same_answer(tell: Tell, case: &[u8], at: usize, r: Ran) -> bool {
     let place = m.place;
     tell.same(b"number", word(case, at), number_of(answer))
         && tell.same(b"steps", word(case, after(case, at, 4)), r.steps as usize)
-        && tell.same(b"place", word(case, after(case, at, 8)), place_of(answer, place.position))
+        && tell.same(
+            b"place",
+            word(case, after(case, at, 8)),
+            place_of(answer, place.position),
+        )
         && same_machine(tell, case, after(case, at, 12), m)
 }
 
@@ -75,7 +79,16 @@ fn judge(
     if !same_answer(tell, case, at, r) {
         return Found::Differs;
     }
-    if !same_slices(tell, case, after_machine(case, state), tape, register, table, channel, output) {
+    if !same_slices(
+        tell,
+        case,
+        after_machine(case, state),
+        tape,
+        register,
+        table,
+        channel,
+        output,
+    ) {
         return Found::Differs;
     }
     Found::Agrees
@@ -114,8 +127,29 @@ fn with_output(
     channel: &mut [u64],
     output: &mut [u64],
 ) -> Found {
-    let r = start(sort, case, at, file, input, tape, register, table, channel, output);
-    judge(tell, case, at_answer(case, sort, at), r, tape, register, table, channel, output)
+    let r = start(
+        sort,
+        case,
+        at,
+        file,
+        input,
+        tape,
+        register,
+        table,
+        channel,
+        output,
+    );
+    judge(
+        tell,
+        case,
+        at_answer(case, sort, at),
+        r,
+        tape,
+        register,
+        table,
+        channel,
+        output,
+    )
 }
 
 fn with_channel(
@@ -134,7 +168,19 @@ fn with_channel(
     let mut output = [0u64; 4096];
     contents(case, after(case, at, 4), &mut output);
     let n = of_lanes(word(case, at), &output);
-    with_output(tell, sort, file, case, state, input, tape, register, table, channel, &mut output[..n])
+    with_output(
+        tell,
+        sort,
+        file,
+        case,
+        state,
+        input,
+        tape,
+        register,
+        table,
+        channel,
+        &mut output[..n],
+    )
 }
 
 fn with_table(
@@ -152,7 +198,18 @@ fn with_table(
     let mut channel = [0u64; 258];
     contents(case, after(case, at, 4), &mut channel);
     let n = of_lanes(word(case, at), &channel);
-    with_channel(tell, sort, file, case, next, input, tape, register, table, &mut channel[..n])
+    with_channel(
+        tell,
+        sort,
+        file,
+        case,
+        next,
+        input,
+        tape,
+        register,
+        table,
+        &mut channel[..n],
+    )
 }
 
 // The table of functions as it is lent.
@@ -183,15 +240,42 @@ fn with_register(
     let mut table = [0u16; 258];
     narrow(&entries, &mut table);
     let n = of_places(word(case, at), &table);
-    with_table(tell, sort, file, case, next, input, tape, register, &mut table[..n])
+    with_table(
+        tell,
+        sort,
+        file,
+        case,
+        next,
+        input,
+        tape,
+        register,
+        &mut table[..n],
+    )
 }
 
-fn with_tape(tell: Tell, sort: u8, file: &[u8], case: &[u8], at: usize, input: &[u64], tape: &mut [u64]) -> Found {
+fn with_tape(
+    tell: Tell,
+    sort: u8,
+    file: &[u8],
+    case: &[u8],
+    at: usize,
+    input: &[u64],
+    tape: &mut [u64],
+) -> Found {
     let next = after_slice(case, at, 1026);
     let mut register = [0u64; 1026];
     contents(case, after(case, at, 4), &mut register);
     let n = of_lanes(word(case, at), &register);
-    with_register(tell, sort, file, case, next, input, tape, &mut register[..n])
+    with_register(
+        tell,
+        sort,
+        file,
+        case,
+        next,
+        input,
+        tape,
+        &mut register[..n],
+    )
 }
 
 fn with_input(tell: Tell, sort: u8, file: &[u8], case: &[u8], at: usize, input: &[u64]) -> Found {

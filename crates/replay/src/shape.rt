@@ -34,7 +34,15 @@ fn same_bytes(tell: Tell, case: &[u8], at: usize, fill: u8, came: &[u8]) -> bool
 }
 
 // The numbers of an answer, from a place on, and the bytes that are written.
-fn same_answer(tell: Tell, case: &[u8], at: usize, number: usize, place: usize, bytes: usize, out: &[u8]) -> bool {
+fn same_answer(
+    tell: Tell,
+    case: &[u8],
+    at: usize,
+    number: usize,
+    place: usize,
+    bytes: usize,
+    out: &[u8],
+) -> bool {
     let at_bytes = after(case, at, 8);
     tell.same(b"number", word(case, at), number)
         && tell.same(b"place", word(case, after(case, at, 4)), place)
@@ -115,7 +123,14 @@ fn same_bodies(tell: Tell, what: &[u8], case: &[u8], at: usize, came: &[u32]) ->
     true
 }
 
-fn same_lists(tell: Tell, case: &[u8], bodies: usize, numbers: &[u32], firsts: &[u32], counts: &[u32]) -> bool {
+fn same_lists(
+    tell: Tell,
+    case: &[u8],
+    bodies: usize,
+    numbers: &[u32],
+    firsts: &[u32],
+    counts: &[u32],
+) -> bool {
     let at = at_bodies(case);
     tell.same(b"bodies", word(case, at), bodies)
         && same_bodies(tell, b"number of body", case, after(case, at, 4), numbers)
@@ -125,23 +140,45 @@ fn same_lists(tell: Tell, case: &[u8], bodies: usize, numbers: &[u32], firsts: &
 
 fn bytes_of(r: Flattened) -> usize {
     match r {
-        Flattened::BadFile { number: _, place: _ } => 0,
+        Flattened::BadFile {
+            number: _,
+            place: _,
+        } => 0,
         Flattened::NoOpenEnd { op: _ } => 0,
         Flattened::NoRoom => 0,
-        Flattened::Written { ops: _, bytes, bodies: _ } => bytes,
+        Flattened::Written {
+            ops: _,
+            bytes,
+            bodies: _,
+        } => bytes,
     }
 }
 
 fn bodies_of(r: Flattened) -> usize {
     match r {
-        Flattened::BadFile { number: _, place: _ } => 0,
+        Flattened::BadFile {
+            number: _,
+            place: _,
+        } => 0,
         Flattened::NoOpenEnd { op: _ } => 0,
         Flattened::NoRoom => 0,
-        Flattened::Written { ops: _, bytes: _, bodies } => bodies,
+        Flattened::Written {
+            ops: _,
+            bytes: _,
+            bodies,
+        } => bodies,
     }
 }
 
-fn same_flat(tell: Tell, case: &[u8], r: Flattened, out: &[u8], numbers: &[u32], firsts: &[u32], counts: &[u32]) -> bool {
+fn same_flat(
+    tell: Tell,
+    case: &[u8],
+    r: Flattened,
+    out: &[u8],
+    numbers: &[u32],
+    firsts: &[u32],
+    counts: &[u32],
+) -> bool {
     let number = flattening::answer::number_of(r);
     let place = flattening::answer::place_of(r);
     same_answer(tell, case, 9, number, place, bytes_of(r), out)
@@ -177,7 +214,15 @@ fn flatten(tell: Tell, file: &[u8], case: &[u8]) -> Found {
     let k = of_numbers(room, &numbers);
     let l = of_numbers(room, &firsts);
     let m = of_numbers(room, &counts);
-    flatten_to(tell, file, case, &mut out[..n], &mut numbers[..k], &mut firsts[..l], &mut counts[..m])
+    flatten_to(
+        tell,
+        file,
+        case,
+        &mut out[..n],
+        &mut numbers[..k],
+        &mut firsts[..l],
+        &mut counts[..m],
+    )
 }
 
 pub fn replay_flatten(tell: Tell, file: &[u8], case: &[u8]) -> Found {

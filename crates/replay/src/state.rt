@@ -18,11 +18,19 @@ fn given(n: usize) -> usize
 
 // Where the saved pointers of the machine at a place begin, and the place after them.
 fn at_refs(case: &[u8], at: usize) -> usize {
-    after(case, after(case, at, 48), 4 * given(word(case, after(case, at, 40))))
+    after(
+        case,
+        after(case, at, 48),
+        4 * given(word(case, after(case, at, 40))),
+    )
 }
 
 pub fn after_machine(case: &[u8], at: usize) -> usize {
-    after(case, at_refs(case, at), 4 * given(word(case, after(case, at, 44))))
+    after(
+        case,
+        at_refs(case, at),
+        4 * given(word(case, after(case, at, 44))),
+    )
 }
 
 pub fn place_at(case: &[u8], at: usize) -> Place {
