@@ -90,19 +90,30 @@ pub fn machine_at(case: &[u8], at: usize) -> Machine {
     }
 }
 
-fn same_place(tell: Tell, e: Place, m: Place) -> bool {
+// The machine's numbers: where it is, what of its storage is in use, and what it has taken, written and saved.
+fn same_position(tell: Tell, e: Place, m: Place) -> bool {
     tell.same(b"position", e.position, m.position)
         && tell.same(b"pointer", e.pointer, m.pointer)
         && tell.same(b"counted length", e.length, m.length)
         && tell.same(b"halted", e.halted as usize, m.halted as usize)
-        && tell.same(b"lanes", e.lanes, m.lanes)
+}
+
+fn same_use(tell: Tell, e: Place, m: Place) -> bool {
+    tell.same(b"lanes", e.lanes, m.lanes)
         && tell.same(b"functions", e.functions, m.functions)
         && tell.same(b"first place of the channel", e.first, m.first)
         && tell.same(b"values waiting", e.waiting, m.waiting)
-        && tell.same(b"inputs taken", e.taken, m.taken)
+}
+
+fn same_counts(tell: Tell, e: Place, m: Place) -> bool {
+    tell.same(b"inputs taken", e.taken, m.taken)
         && tell.same(b"outputs written", e.written, m.written)
         && tell.same(b"calls saved", e.depth, m.depth)
         && tell.same(b"pointers saved", e.saved, m.saved)
+}
+
+fn same_place(tell: Tell, e: Place, m: Place) -> bool {
+    same_position(tell, e, m) && same_use(tell, e, m) && same_counts(tell, e, m)
 }
 
 fn call(x: u16) -> usize {
