@@ -6,3 +6,4 @@ pub mod Writing
 pub mod FewBodies
 pub mod File
 pub mod Again
+pub mod AsTheRust
