@@ -1,6 +1,6 @@
 -- Worked files, computed: 01's example, each refusal with a smallest file, and the order of the tests. Assumes nothing.
 use mathlib.Core.Path.{_≡_, refl}
-use mathlib.Core.List.{List, [], _∷_, map}
+use mathlib.Core.List.{List, [], _∷_, _++_, map}
 use Prim.Native.Nat.{ℕ, _<_}
 use native.Mathlib.Omega.{arith}
 use borrow.Author.Tests.{lt-ltb}
@@ -60,7 +60,9 @@ meanings = refl
 
 -- each refusal 1 to 6 with a smallest file, one after an End; then files that break two rules, where the first test's number is
 -- given: under 2 before beyond the file, beyond the file before the kind, the kind before the payload's length, that before the
--- lanes and the mode, "mode over 3" before mode 2 (258), no multiple of 8 before too many values
+-- lanes and the mode, "mode over 3" before mode 2 (258), no multiple of 8 before too many values; then 7 and 8, on a walk near its
+-- limits: one op still allowed before two Ends, none before a bad record, 256 marks before a Function, 255 before it, and both
+-- limits at once, where 7 is first
 pub refusals :
     map answer (
     (0 ∷ []) ∷
@@ -86,17 +88,7 @@ pub refusals :
     (10 ∷ 32 ∷ 0 ∷ 0 ∷ 1 ∷ 0 ∷ replicate 8200 0) ∷
     (2 ∷ 32 ∷ 0 ∷ 0 ∷ 1 ∷ 0 ∷ replicate 8192 0) ∷
     [])
-    ≡
-    read 1 0 0 ∷ read 1 0 0 ∷ read 2 0 0 ∷ read 2 0 0 ∷ read 3 0 0 ∷ read 4 0 0 ∷ read 4 0 0 ∷ read 5 0 0 ∷ read 6 0 0 ∷ read 6 6 1 ∷
-    read 2 0 0 ∷ read 1 0 0 ∷ read 3 0 0 ∷ read 4 0 0 ∷ read 2 0 0 ∷ read 2 0 0 ∷ read 6 0 0 ∷
-    read 2 0 0 ∷ read 0 1 1 ∷ read 2 0 0 ∷ read 5 0 0 ∷ read 0 1 1 ∷
-    []
-unfolding kindAt indexOf numberOf lengthOk countOf modeOf bodyAt recordAt markOf patchOf readOf
-refusals = refl
-
--- 7 and 8 on a walk near its limits: one op still allowed before two Ends, none before a bad record, 256 marks before a
--- Function, 255 before it, and both limits at once, where 7 is first
-pub limits :
+    ++
     map readOf (
     walk (2 ∷ 0 ∷ 0 ∷ 0 ∷ 8 ∷ 0 ∷ 2 ∷ 0 ∷ 0 ∷ 0 ∷ 8 ∷ 0 ∷ []) 1 0 0 ∷
     walk (2 ∷ 0 ∷ 0 ∷ 0 ∷ 40 ∷ 0 ∷ []) 0 0 0 ∷
@@ -104,9 +96,14 @@ pub limits :
     walk (2 ∷ 0 ∷ 0 ∷ 0 ∷ 2 ∷ 0 ∷ []) 1 255 0 ∷
     walk (2 ∷ 0 ∷ 0 ∷ 0 ∷ 2 ∷ 0 ∷ []) 0 256 0 ∷
     [])
-    ≡ read 7 6 1 ∷ read 3 0 0 ∷ read 8 0 0 ∷ read 0 1 1 ∷ read 7 0 0 ∷ []
-unfolding kindAt indexOf numberOf lengthOk countOf modeOf bodyAt recordAt markOf readOf
-limits = refl
+    ≡
+    read 1 0 0 ∷ read 1 0 0 ∷ read 2 0 0 ∷ read 2 0 0 ∷ read 3 0 0 ∷ read 4 0 0 ∷ read 4 0 0 ∷ read 5 0 0 ∷ read 6 0 0 ∷ read 6 6 1 ∷
+    read 2 0 0 ∷ read 1 0 0 ∷ read 3 0 0 ∷ read 4 0 0 ∷ read 2 0 0 ∷ read 2 0 0 ∷ read 6 0 0 ∷
+    read 2 0 0 ∷ read 0 1 1 ∷ read 2 0 0 ∷ read 5 0 0 ∷ read 0 1 1 ∷
+    read 7 6 1 ∷ read 3 0 0 ∷ read 8 0 0 ∷ read 0 1 1 ∷ read 7 0 0 ∷
+    []
+unfolding kindAt indexOf numberOf lengthOk countOf modeOf bodyAt recordAt markOf patchOf readOf
+refusals = refl
 
 -- every longer file is 9 at 0, whatever its records; so is one of 65,537 bytes
 pub longer : (s : List ℕ) → 65536 < length s → answer s ≡ read 9 0 0
