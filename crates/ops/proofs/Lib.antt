@@ -3,6 +3,7 @@ pub mod ValuesAt
 pub mod TextAt
 pub mod Payload
 pub mod Room
+pub mod AnyFile
 pub mod Whole
 pub mod Reading
 pub mod Items

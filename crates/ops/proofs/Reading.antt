@@ -12,12 +12,14 @@ use lib.Seq.{append-snoc, set-at, drop-cons}
 use Rattle.ops.specs.Storage.{fill}
 use Rattle.ops.specs.Kinds.{need, kindAt, runNeed}
 use Rattle.ops.specs.Refusals.{numberOf}
-use Rattle.ops.specs.Record.{recordAt}
+use Rattle.ops.specs.Record.{recordAt, recordFrom}
 use Rattle.ops.specs.Patch.{Item, item, kindIn, countIn, needIn, placeIn, Loaded, ending, stop, push, walk, patchOf, readOf, refusedAt, markOf}
 use Rattle.ops.specs.declared.refusals.Refusal.{Refusal}
 use Rattle.ops.specs.declared.refusals.Refusal.the-variants.{CutShort, WrongLength, UnknownKind, LeftOut, TooManyLanes, WrongMode, TooManyOps, TooManyMarks, FileTooLong}
+use Rattle.ops.specs.declared.records.Record.{Record}
 use Rattle.ops.specs.declared.records.Record.the-variants.{Whole, Bad}
 use Rattle.ops.specs.declared.reader.Read.{Read}
+use Rattle.ops.proofs.AnyFile.{from-short}
 
 abbrev pub prepend : List Item → Loaded → Loaded
 prepend acc l = record { items = acc ++ l .items; number = l .number; place = l .place }
@@ -124,6 +126,10 @@ start s k c e p h =
     record { acc = []; size = refl; whole = simp (le-ltb _ _ h); ks = refl; cs = refl; es = refl; ps = refl; room = omega arith; within = omega arith; short = h; few = omega arith }
 
 module _ {s k₀ c₀ e₀ p₀ k c e p : List ℕ} {at n m : ℕ} (i : Reading s k₀ c₀ e₀ p₀ k c e p at n m) where
+  -- what the record reader found stands in the file
+  pub found : (x y : Record) → x ≡ recordFrom s at → x ≡ y → y ≡ recordAt s at
+  found x y f w = sym w ∙ f ∙ from-short s at (i .short)
+
   finish : (a b : ℕ) → walk s (4096 - n) m at ≡ ending a b → Said s k₀ c₀ e₀ p₀ k c e p (record { number = a; place = cond (eqb a 0) n b; ops = n })
   unfolding readOf
   finish a b h =

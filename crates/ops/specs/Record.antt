@@ -6,7 +6,7 @@ use lib.ListN.{length}
 use lib.Dec.{ltb, leb, eqb}
 use Rattle.ops.specs.Bytes.{u16At, u32At}
 use Rattle.ops.specs.Kinds.{shape, kindAt, indexOf}
-use Rattle.ops.specs.declared.refusals.Refusal.the-variants.{CutShort, WrongLength, UnknownKind, LeftOut, TooManyLanes, WrongMode}
+use Rattle.ops.specs.declared.refusals.Refusal.the-variants.{CutShort, WrongLength, UnknownKind, LeftOut, TooManyLanes, WrongMode, FileTooLong}
 use Rattle.ops.specs.declared.records.Record.{Record}
 use Rattle.ops.specs.declared.records.Record.the-variants.{Whole, Bad}
 
@@ -51,3 +51,7 @@ recordAt s p =
     (cond (ltb (length s) (p + 4 + u32At s p)) (Bad CutShort p)
     (cond (leb 62 (indexOf (u16At s (p + 4)))) (Bad UnknownKind p)
     (bodyAt s p (indexOf (u16At s (p + 4))) (u32At s p - 2)))))
+
+-- the same for a file of any length: "9 first"
+unfoldable pub recordFrom : List ℕ → ℕ → Record
+recordFrom s p = cond (ltb 65536 (length s)) (Bad FileTooLong 0) (recordAt s p)

@@ -7,4 +7,5 @@ pub mod writer; // one record to bytes
 pub mod kinds; // the table of the 62 kinds
 pub mod refusals; // why a file is refused
 pub mod records; // the record at a place
+pub mod record_reader; // the reader that holds the patch bytes and its place
 pub mod reader; // the whole file

@@ -9,8 +9,8 @@ use crate::kinds::run_need;
 use crate::limits::FILE_BYTES;
 use crate::limits::MARKS;
 use crate::limits::OPS;
+use crate::record_reader::read_record;
 use crate::records::Record;
-use crate::records::record_at;
 use crate::refusals::Refusal;
 use crate::refusals::number_of;
 
@@ -61,7 +61,7 @@ pub fn load(
     let mut n: usize = 0;
     let mut marks: usize = 0;
     while at < bytes.len() {
-        let r = record_at(bytes, at);
+        let r = read_record(bytes, at);
         match r {
             Record::Bad { refusal, place } => {
                 return refused_at(refusal, place, n);

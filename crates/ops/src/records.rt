@@ -3,11 +3,12 @@ ghost use mathlib.Core.Path.{_≡_};
 ghost use mathlib.Core.Bool.{true};
 ghost use Prim.Native.Nat.{_+_, _≤_};
 ghost use lib.ListN.{length};
-ghost use Rattle.ops.specs.Record.{lengthOk, countOf, modeOf, bodyAt, recordAt};
+ghost use Rattle.ops.specs.Record.{lengthOk, countOf, modeOf, bodyAt, recordAt, recordFrom};
 use crate::bytes::u16_at;
 use crate::bytes::u32_at;
 use crate::kinds::index_of;
 use crate::kinds::kind_at;
+use crate::limits::FILE_BYTES;
 use crate::limits::LANES;
 use crate::refusals::Refusal;
 
@@ -149,4 +150,23 @@ pub fn record_at(bytes: &[u8], at: usize) -> Record
         };
     }
     body_at(bytes, at, k, size - 2)
+}
+
+// The same for any file and any place: no record of a file that is too long is read, and none begins beyond the bytes.
+pub fn record_from(bytes: &[u8], at: usize) -> Record
+    ensures { λ r. ⌜ r ≡ recordFrom (now (bytes .entry)) at ⌝ }
+{
+    if FILE_BYTES < bytes.len() {
+        return Record::Bad {
+            refusal: Refusal::FileTooLong,
+            place: 0,
+        };
+    }
+    if bytes.len() < at {
+        return Record::Bad {
+            refusal: Refusal::CutShort,
+            place: at,
+        };
+    }
+    record_at(bytes, at)
 }
