@@ -82,7 +82,6 @@ pub record Reading (s k₀ c₀ e₀ p₀ k c e p : List ℕ) (at n m : ℕ) : T
   pub es : e ≡ fill (map needIn acc) e₀
   pub ps : p ≡ fill (map placeIn acc) p₀
   pub room : n ≤ 4096
-  pub within : at ≤ length s
   pub short : length s ≤ 65536
   pub few : m ≤ 256
 
@@ -123,7 +122,7 @@ too-long s k c e p r q h = simp (lt-ltb _ _ h, numbered FileTooLong) (q, (refl, 
 pub start : (s k c e p : List ℕ) → length s ≤ 65536 → Reading s k c e p k c e p 0 0 0
 unfolding patchOf fill
 start s k c e p h =
-    record { acc = []; size = refl; whole = simp (le-ltb _ _ h); ks = refl; cs = refl; es = refl; ps = refl; room = omega arith; within = omega arith; short = h; few = omega arith }
+    record { acc = []; size = refl; whole = simp (le-ltb _ _ h); ks = refl; cs = refl; es = refl; ps = refl; room = omega arith; short = h; few = omega arith }
 
 module _ {s k₀ c₀ e₀ p₀ k c e p : List ℕ} {at n m : ℕ} (i : Reading s k₀ c₀ e₀ p₀ k c e p at n m) where
   -- what the record reader found stands in the file
@@ -143,11 +142,11 @@ module _ {s k₀ c₀ e₀ p₀ k c e p : List ℕ} {at n m : ℕ} (i : Reading 
   unfolding refusedAt
   finish-bad x b r q h = rw q (rw (numbered x) at (finish (numberOf x) b h))
 
-  pub advance : (kind b len count next need more : ℕ) → at < length s → Whole kind b len count next ≡ recordAt s at → n < 4096 → more ≤ 256 → next ≤ length s
+  pub advance : (kind b len count next need more : ℕ) → at < length s → Whole kind b len count next ≡ recordAt s at → n < 4096 → more ≤ 256
       → need ≡ runNeed kind count → more ≡ m + markOf kind
       → length k₀ ≡ 4096 → length c₀ ≡ 4096 → length e₀ ≡ 4096 → length p₀ ≡ 4096
       → Reading s k₀ c₀ e₀ p₀ (set k n kind) (set c n count) (set e n need) (set p n b) next (n + 1) more
-  advance kind b len count next need more h w r f t u v hk hc he hp =
+  advance kind b len count next need more h w r f u v hk hc he hp =
       let x = item kind count b in
       let q : 4096 - n ≡ suc (4096 - (n + 1)) = omega arith in
       let f′ : m + markOf kind ≤ 256 = omega (arith, f, v) in
@@ -164,7 +163,6 @@ module _ {s k₀ c₀ e₀ p₀ k c e p : List ℕ} {at n m : ℕ} (i : Reading 
         es = fill-item needIn (i .acc) x e₀ e n need (i .size) he r u (i .es);
         ps = fill-item placeIn (i .acc) x p₀ p n b (i .size) hp r refl (i .ps);
         room = omega arith;
-        within = t;
         short = i .short;
         few = f;
       }

@@ -44,7 +44,7 @@ pub fn length_ok(shape: u8, len: usize) -> bool
 }
 
 // What a payload counts: bytes of text, values, or lanes.
-pub fn count_of(bytes: &[u8], shape: u8, at: usize, len: usize) -> usize
+fn count_of(bytes: &[u8], shape: u8, at: usize, len: usize) -> usize
     requires { ⌜ (at + len ≤ length (now bytes)) × (lengthOk shape len ≡ true) ⌝ }
     ensures { λ r. ⌜ r ≡ countOf (now (bytes .entry)) shape at len ⌝ }
 {
@@ -58,7 +58,7 @@ pub fn count_of(bytes: &[u8], shape: u8, at: usize, len: usize) -> usize
 }
 
 // The mode that a payload names; 0 where it names none.
-pub fn mode_of(bytes: &[u8], shape: u8, at: usize, len: usize) -> usize
+fn mode_of(bytes: &[u8], shape: u8, at: usize, len: usize) -> usize
     requires { ⌜ (at + len ≤ length (now bytes)) × (lengthOk shape len ≡ true) ⌝ }
     ensures { λ r. ⌜ r ≡ modeOf (now (bytes .entry)) shape at ⌝ }
 {
@@ -69,7 +69,7 @@ pub fn mode_of(bytes: &[u8], shape: u8, at: usize, len: usize) -> usize
 }
 
 // The record at byte `at` whose kind is row k and whose payload has `len` bytes.
-pub fn body_at(bytes: &[u8], at: usize, k: usize, len: usize) -> Record
+fn body_at(bytes: &[u8], at: usize, k: usize, len: usize) -> Record
     requires { ⌜ (at + 6 + len ≤ length (now bytes)) × (length (now bytes) ≤ 65536) ⌝ }
     ensures { λ r. ⌜ r ≡ bodyAt (now (bytes .entry)) at k len ⌝ }
 {
@@ -118,7 +118,7 @@ pub fn body_at(bytes: &[u8], at: usize, k: usize, len: usize) -> Record
 }
 
 // What stands at byte `at` of a patch.
-pub fn record_at(bytes: &[u8], at: usize) -> Record
+fn record_at(bytes: &[u8], at: usize) -> Record
     requires { ⌜ (at ≤ length (now bytes)) × (length (now bytes) ≤ 65536) ⌝ }
     ensures { λ r. ⌜ r ≡ recordAt (now (bytes .entry)) at ⌝ }
 {

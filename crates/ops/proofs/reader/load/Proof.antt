@@ -49,5 +49,5 @@ load-spec =
     (λ c. omega arith)
     (λ c. omega arith)
     (λ c. let h = tells _ _ _ _ _ _ _ (sym (found (c .before .before .before .before .before .before .before .before .before .loop .inv) _ _ (c .before .before .before .before .before .before .before .read-record .ensures) (c .before .before .before .before .before .r2 .given .1))) in omega (arith, h .body, h .size, h .within))
-    (λ c. let h = tells _ _ _ _ _ _ _ (sym (found (c .before .before .before .before .before .before .before .before .before .loop .inv) _ _ (c .before .before .before .before .before .before .before .read-record .ensures) (c .before .before .before .before .before .r2 .given .1))) in advance (c .before .before .before .before .before .before .before .before .before .loop .inv) _ _ _ _ _ _ _ (c .before .before .before .before .before .before .before .before .loop-test .taken) (found (c .before .before .before .before .before .before .before .before .before .loop .inv) _ _ (c .before .before .before .before .before .before .before .read-record .ensures) (c .before .before .before .before .before .r2 .given .1)) (omega arith) (c .before .if3 .left) (h .within) (c .run-need .ensures) (ap (λ (j : ℕ). c .before .before .before .before .before .before .before .before .before .loop .marks + j) (c .before .before .mark-of .ensures .0)) (c .before .before .before .before .before .before .before .before .before .before .before .before .pre .0) (c .before .before .before .before .before .before .before .before .before .before .before .before .pre .1 .0) (c .before .before .before .before .before .before .before .before .before .before .before .before .pre .1 .1 .0) (c .before .before .before .before .before .before .before .before .before .before .before .before .pre .1 .1 .1))
+    (λ c. advance (c .before .before .before .before .before .before .before .before .before .loop .inv) _ _ _ _ _ _ _ (c .before .before .before .before .before .before .before .before .loop-test .taken) (found (c .before .before .before .before .before .before .before .before .before .loop .inv) _ _ (c .before .before .before .before .before .before .before .read-record .ensures) (c .before .before .before .before .before .r2 .given .1)) (omega arith) (c .before .if3 .left) (c .run-need .ensures) (ap (λ (j : ℕ). c .before .before .before .before .before .before .before .before .before .loop .marks + j) (c .before .before .mark-of .ensures .0)) (c .before .before .before .before .before .before .before .before .before .before .before .before .pre .0) (c .before .before .before .before .before .before .before .before .before .before .before .before .pre .1 .0) (c .before .before .before .before .before .before .before .before .before .before .before .before .pre .1 .1 .0) (c .before .before .before .before .before .before .before .before .before .before .before .before .pre .1 .1 .1))
     (λ c. finish-good (c .before .loop .inv) (walk-end (c .before .before .before .before .args .bytes .now) (c .before .loop .marks) (c .before .loop .at) (4096 - c .before .loop .n) (c .loop-test .left))))

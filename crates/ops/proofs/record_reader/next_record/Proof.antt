@@ -1,6 +1,6 @@
--- `ops::record_reader::next_record` meets its contract: a walk of its MIR, by hand. The struct is taken apart, and `record_from` is called on the slice and the number. All that the proof knows of `record_from` is that it meets its contract.
--- The struct is Copy: what it owns is had twice, one copy is kept whole for the exit, and of the other what bytes owns goes to the callee, beside the lifetime's token, which comes back.
--- Assumes nothing.
+-- `ops::record_reader::next_record` meets its contract: a walk of its MIR, by hand. The reader is taken apart, and `record_from` is called on the slice and the number.
+-- The reader is Copy: what it owns is had twice, one copy is kept whole for the exit, and of the other what bytes owns goes to the callee, beside the lifetime's token, which comes back.
+-- Assumes nothing but `record_from`'s contract, which is proved.
 use mathlib.Core.Path.{_≡_, refl}
 use Prim.Native.Nat.{_<_, _^_}
 use mathlib.Core.List.{[], _∷_}
@@ -50,10 +50,10 @@ use Rattle.ops.proofs.record_reader.Reader as T
 use Rattle.ops.proofs.record_reader.Reader.Laws as T′
 use Rattle.ops.proofs.records.Record as S
 use Rattle.ops.proofs.records.Record.Laws as S′
-use Rattle.ops.proofs.records.record_from as step
-use Rattle.ops.proofs.records.record_from.Symbol as step-def
+use Rattle.ops.proofs.records.record_from as record-from
+use Rattle.ops.proofs.records.record_from.Symbol as record-from-def
 use Rattle.ops.proofs.records.record_from.Symbol.{name as #record-from}
-use Rattle.ops.proofs.records.record_from.Met as step-thm
+use Rattle.ops.proofs.records.record_from.Met as record-from-thm
 use Rattle.ops.proofs.record_reader.next_record.Key.{name as #next-record}
 use Rattle.ops.proofs.record_reader.next_record as next-record
 use Rattle.ops.proofs.record_reader.next_record.Statement as stated
@@ -69,7 +69,7 @@ stayed = (stay-none B yes, tt)
 module _ {M : Type 1} (𝓤 : URA M) (H : Heap 𝓤) (A : Atoms 𝓤) (mem : Memory → SProp 𝓤) (run : Routine → Fun 𝓤) where
   -- the contract that the proof cites
   abbrev RecordFrom : Contract 𝓤
-  RecordFrom = tripleOf 𝓤 H A step.signature (step.spec 𝓤 H A mem run)
+  RecordFrom = tripleOf 𝓤 H A record-from.signature (record-from.spec 𝓤 H A mem run)
 
 module _ {M : Type 1} (𝓤 : URA M) (H : Heap 𝓤) (A : Atoms 𝓤) (W : Given 𝓤 H A) (mem : Memory → SProp 𝓤) (run : Routine → Fun 𝓤) (κ : Lft) (q : Share) (d : Reader) where
   abbrev mach : Val
@@ -99,13 +99,13 @@ module _ {M : Type 1} (𝓤 : URA M) (H : Heap 𝓤) (A : Atoms 𝓤) (W : Given
   vd = (d .bytes, (d .at, tt))
 
   -- what the callee is passed
-  abbrev passed : Vals step.signature (κ, tt)
+  abbrev passed : Vals record-from.signature (κ, tt)
   passed = (v ∷ [], (vint w64 (d .at) ∷ [], tt))
 
   abbrev to : RecordFrom 𝓤 H A mem run .Ghost
   to = (((κ, tt), (q, tt), tt, (d .bytes, (d .at, tt)), passed), tt)
 
-  asked : ent 𝓤 (onEntry 𝓤 H A step.signature (κ, tt) (q, tt) (d .bytes, (d .at, tt)) passed) (RecordFrom 𝓤 H A mem run .pre to)
+  asked : ent 𝓤 (onEntry 𝓤 H A record-from.signature (κ, tt) (q, tt) (d .bytes, (d .at, tt)) passed) (RecordFrom 𝓤 H A mem run .pre to)
   asked = qed W ((‵ (flft κ q) ⊛ ‵ ftrue) ∷ ‵ (owns (ShrSlice (named 0) κ u8 ∷ usize ∷ []) (d .bytes, (d .at, tt)) passed) ∷ []) ∵ join ! $ frame ! $ done !
 
   -- what the struct owns gives what the callee asks, and is kept
@@ -119,8 +119,8 @@ module _ {M : Type 1} (𝓤 : URA M) (H : Heap 𝓤) (A : Atoms 𝓤) (W : Given
       move ! (2 ∷ 0 ∷ []) $ use2 W (raw (RecordFrom 𝓤 H A mem run .pre to)) asked $ frame ! $ done !)
 
   -- of the callee's `ensured`, the clause alone: it has no `&mut`, so what is said of last values is dropped
-  said : (r : Record) → ent 𝓤 (ensured 𝓤 H A step.ended (step.clauses 𝓤 H A mem run) (κ, tt) (d .bytes, (d .at, tt)) tt r) (fact 𝓤 (r ≡ found))
-  said r = exE 𝓤 _ (λ ws. snd∗ 𝓤 (sem 𝓤 H A (lasts step.ended (κ, tt) (d .bytes, (d .at, tt)) ws)) (fact 𝓤 (r ≡ found)))
+  said : (r : Record) → ent 𝓤 (ensured 𝓤 H A record-from.ended (record-from.clauses 𝓤 H A mem run) (κ, tt) (d .bytes, (d .at, tt)) tt r) (fact 𝓤 (r ≡ found))
+  said r = exE 𝓤 _ (λ ws. snd∗ 𝓤 (sem 𝓤 H A (lasts record-from.ended (κ, tt) (d .bytes, (d .at, tt)) ws)) (fact 𝓤 (r ≡ found)))
 
   exits : (r : Record) (u : Val) → r ≡ found → ent 𝓤 (⋆ 𝓤 H A (‵ (S.the-row .own r (u ∷ [])) ∷ (‵ (flft κ q) ⊛ ‵ ftrue) ∷ ‵ Own ∷ [])) (Post u)
   exits r u e =
@@ -137,7 +137,7 @@ module _ {M : Type 1} (𝓤 : URA M) (H : Heap 𝓤) (A : Atoms 𝓤) (W : Given
         assigns ! (of-opd ! (load ! (from ! (fld ! refl (stop !))) (look-in ! 4 (sub ! 1 refl (whole !))))) (from ! (stop !)) (init ! 0 refl (tt, wt .1 .1 .0)) $
         move ! (8 ∷ []) $ use1 W (raw (RecordFrom 𝓤 H A mem run .pre to) ⊛ ‵ Own) (apart (wt .1 .1 .0 .fits)) $ split ! $
         calls-at ! fm (RecordFrom 𝓤 H A mem run) known to (and-then ! (load ! (from ! (stop !)) (look ! 4 refl)) (and-then ! (load ! (from ! (stop !)) (look ! 2 refl)) (no-more !))) (λ u.
-        use1 W (later (some (λ (r : Record). ((‵ (flft κ q) ⊛ ‵ ftrue) ⊛ ‵ (S.the-row .own r (u ∷ []))) ⊛ raw (ensured 𝓤 H A step.ended (step.clauses 𝓤 H A mem run) (κ, tt) (d .bytes, (d .at, tt)) tt r)))) (id⊢ 𝓤 _) $ await ! tt $ pick ! (λ r.
+        use1 W (later (some (λ (r : Record). ((‵ (flft κ q) ⊛ ‵ ftrue) ⊛ ‵ (S.the-row .own r (u ∷ []))) ⊛ raw (ensured 𝓤 H A record-from.ended (record-from.clauses 𝓤 H A mem run) (κ, tt) (d .bytes, (d .at, tt)) tt r)))) (id⊢ 𝓤 _) $ await ! tt $ pick ! (λ r.
         split ! $ move ! (1 ∷ []) $ use1 W (raw (fact 𝓤 (r ≡ found))) (said r) $ heard ! (r ≡ found) (λ e. split ! $ move ! (1 ∷ []) $
         -- [the result; the token; what the struct owns; _3; …; _2; …; _1; …; room for _0; …]
         peeks ! S.the-row (Is S.the-row) (shows 𝓤 H A S.the-row) r (u ∷ []) (λ is.
@@ -154,8 +154,8 @@ module _ {M : Type 1} (𝓤 : URA M) (H : Heap 𝓤) (A : Atoms 𝓤) (W : Given
 next-record-meets : {M : Type 1} (𝓤 : URA M) (H : Heap 𝓤) (A : Atoms 𝓤) (W : Given 𝓤 H A) (mem : Memory → SProp 𝓤) (run : Routine → Fun 𝓤) (𝓣 : Tables 𝓤 H)
     → Triple 𝓤 (𝓣 .C #record-from) (RecordFrom 𝓤 H A mem run)
     → Meets 𝓤 H A next-record.signature (WpFn 𝓤 H (𝓣 .C) (𝓣 .Λ) code.function) (next-record.spec 𝓤 H A mem run)
-next-record-meets 𝓤 H A W mem run 𝓣 known-step = walk-meets 𝓤 H A next-record.ended stayed W (goes-none 𝓤 H A W 1 B yes (λ κs x f. refl), tt) (next-record.clauses 𝓤 H A mem run) (WpFn 𝓤 H (𝓣 .C) (𝓣 .Λ) code.function) (WpFn-mono 𝓤 H (W .laws) 𝓣 code.function)
-    (next-record-walks 𝓤 H A W mem run (𝓣 .C) (𝓣 .Λ) (fmOf 𝓤 H (W .laws) 𝓣) known-step)
+next-record-meets 𝓤 H A W mem run 𝓣 known = walk-meets 𝓤 H A next-record.ended stayed W (goes-none 𝓤 H A W 1 B yes (λ κs x f. refl), tt) (next-record.clauses 𝓤 H A mem run) (WpFn 𝓤 H (𝓣 .C) (𝓣 .Λ) code.function) (WpFn-mono 𝓤 H (W .laws) 𝓣 code.function)
+    (next-record-walks 𝓤 H A W mem run (𝓣 .C) (𝓣 .Λ) (fmOf 𝓤 H (W .laws) 𝓣) known)
 
 pub next-record-spec : {M : Type 1} → stated.statement M
 unfolding code.routine tablesOf
@@ -163,4 +163,4 @@ next-record-spec 𝓤 H 𝓜 𝓖 𝓡 =
     entered 𝓤 H (tripleOf 𝓤 H (𝓖 .A) next-record.signature (next-record.spec 𝓤 H (𝓖 .A) (𝓜 .mem) (𝓡 .run)))
     (tables 𝓤 H 𝓜 𝓡 code.env .C) (tables 𝓤 H 𝓜 𝓡 code.env .Λ) #next-record code.function (code.unfolded 𝓤 H 𝓜 𝓡)
     (next-record-meets 𝓤 H (𝓖 .A) (givenOf 𝓤 H 𝓜 𝓖) (𝓜 .mem) (𝓡 .run) (tablesOf 𝓤 H 𝓜 (tables 𝓤 H 𝓜 𝓡 code.env))
-    (cited 𝓤 H (RecordFrom 𝓤 H (𝓖 .A) (𝓜 .mem) (𝓡 .run)) 𝓜 𝓡 code.env #record-from step-def.routine code.calls-ops·records·record-from (step-thm.met 𝓤 H 𝓜 𝓖 𝓡)))
+    (cited 𝓤 H (RecordFrom 𝓤 H (𝓖 .A) (𝓜 .mem) (𝓡 .run)) 𝓜 𝓡 code.env #record-from record-from-def.routine code.calls-ops·records·record-from (record-from-thm.met 𝓤 H 𝓜 𝓖 𝓡)))

@@ -1,6 +1,6 @@
--- `ops::record_reader::read_record` meets its contract: a walk of its MIR, by hand. A `Reader` that one call returns is held in a local and passed to the next-record. All that the proof knows of `new` and of `next_record` is that each meets its contract.
--- The machine value that `new` returns is stored and passed on as it is. In a local of a body MIR erases the lifetime of the struct's type, so the value is shown to have the type at `erased`: what the struct owns does not say the lifetime's name.
--- Assumes nothing.
+-- `ops::record_reader::read_record` meets its contract: a walk of its MIR, by hand. The reader that `new` returns goes to `advanced`, and what that returns to `next_record`, each through a local.
+-- A local of a body has the struct's type with its lifetime erased, so each value is shown to have the type at `erased`: what the reader owns does not say the lifetime's name.
+-- Assumes nothing but the contracts of the three, which are proved.
 use mathlib.Core.Path.{_≡_, refl, ap, _∙_}
 use Prim.Native.Nat.{ℕ, _<_, _^_}
 use mathlib.Core.List.{List, [], _∷_}
