@@ -50,11 +50,6 @@ pub below-all : (s : List ℕ) → ((i : ℕ) → getD s i 0 < 256) → Below 25
 below-all [] h = tt
 below-all (x ∷ s) h = (h 0, below-all s (λ i. h (suc i)))
 
-pub encode-append : (xs ys : List Op) → encodeAll (xs ++ ys) ≡ encodeAll xs ++ encodeAll ys
-unfolding encodeAll
-encode-append [] ys = refl
-encode-append (x ∷ xs) ys = ap (λ (l : List ℕ). encode x ++ l) (encode-append xs ys) ∙ sym (append-assoc (encode x) (encodeAll xs) (encodeAll ys))
-
 pub encode-length : (xs ys : List Op) → length (encodeAll (xs ++ ys)) ≡ length (encodeAll xs) + length (encodeAll ys)
 encode-length xs ys = ap length (encode-append xs ys) ∙ length-append (encodeAll xs) (encodeAll ys)
 
