@@ -23,7 +23,8 @@ use Rattle.ops.proofs.Digits.{after, at32}
 use Rattle.ops.proofs.Meaning.{ops-are}
 use Rattle.ops.proofs.Rewritten.{bytes-back}
 use Rattle.ops.proofs.Storage.{placed-none, placed-then, length-placed}
-use Rattle.ops.proofs.Written.{length-encode}
+use Rattle.ops.proofs.RoundTrip.{encode-append}
+use Rattle.ops.proofs.Written.{length-encode, parts, ends}
 use Rattle.flattening.specs.Flatten.{body}
 use Rattle.flattening.specs.Scope.{partOf}
 use Rattle.flattening.specs.Flattened.{held, opsIn}
@@ -50,34 +51,17 @@ pub below-all : (s : List ℕ) → ((i : ℕ) → getD s i 0 < 256) → Below 25
 below-all [] h = tt
 below-all (x ∷ s) h = (h 0, below-all s (λ i. h (suc i)))
 
-pub encode-append : (xs ys : List Op) → encodeAll (xs ++ ys) ≡ encodeAll xs ++ encodeAll ys
-unfolding encodeAll
-encode-append [] ys = refl
-encode-append (x ∷ xs) ys = ap (λ (l : List ℕ). encode x ++ l) (encode-append xs ys) ∙ sym (append-assoc (encode x) (encodeAll xs) (encodeAll ys))
-
 pub encode-length : (xs ys : List Op) → length (encodeAll (xs ++ ys)) ≡ length (encodeAll xs) + length (encodeAll ys)
 encode-length xs ys = ap length (encode-append xs ys) ∙ length-append (encodeAll xs) (encodeAll ys)
 
 -- ---- the record at a byte
 
 module _ (s : List ℕ) (p : ℕ) (o : Op) (t : List ℕ) (d : drop p s ≡ encode o ++ t) where
-  ends : p + length (encode o) ≤ length s
-  ends =
-      let l : length (drop p s) ≡ length (encode o ++ t) = ap length d in
-      omega (arith, length-drop p s, length-append (encode o) t, length-encode o)
-
-  parts : drop p s ≡ le32 (length (payloadOf o) + 2) ++ (le16 (kindOf o) ++ (payloadOf o ++ t))
-  unfolding encode recordOf
-  parts =
-      d
-      ∙ append-assoc (le32 (length (payloadOf o) + 2) ++ le16 (kindOf o)) (payloadOf o) t
-      ∙ append-assoc (le32 (length (payloadOf o) + 2)) (le16 (kindOf o)) (payloadOf o ++ t)
-
   -- the record says how long it is
   size-is : length s ≤ 65536 → u32At s p + 4 ≡ length (encode o)
   size-is h =
-      let u : u32At s p ≡ (length (payloadOf o) + 2) % 4294967296 = at32 s p (length (payloadOf o) + 2) _ parts in
-      omega (arith, u, ends, length-encode o)
+      let u : u32At s p ≡ (length (payloadOf o) + 2) % 4294967296 = at32 s p (length (payloadOf o) + 2) _ (parts o s p t d) in
+      omega (arith, u, ends o s p t d, length-encode o)
 
   text-is : textAt s p (length (encode o)) ≡ encode o
   unfolding textAt
@@ -172,7 +156,7 @@ module _ (s cs : List ℕ) (b : ℕ) (out₀ : List ℕ) (at : ℕ) (out : List 
     bytes-at = c .here ∙ ap encodeAll op-at
 
     pub head-fits : from + 4 ≤ length s
-    head-fits = omega (arith, ends s from o (encodeAll tail) bytes-at, length-encode o)
+    head-fits = omega (arith, ends o s from (encodeAll tail) bytes-at)
 
     whole-on : body b cs (opsIn s) ≡ (c .acc ++ mine b k o) ++ body b (drop (suc i) cs) tail
     unfolding k
@@ -193,7 +177,7 @@ module _ (s cs : List ℕ) (b : ℕ) (out₀ : List ℕ) (at : ℕ) (out : List 
       part-long = part-here ∙ mine-bytes b k o
 
       pub size-fits : from + size ≤ length s
-      size-fits = omega (arith, ends s from o (encodeAll tail) bytes-at, size-here)
+      size-fits = omega (arith, ends o s from (encodeAll tail) bytes-at, size-here, length-encode o)
 
       pub part-fits : next + part ≤ length out
       part-fits =

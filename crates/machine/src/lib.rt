@@ -2,5 +2,4 @@
 pub mod machine; // the machine and what it answers
 pub mod formed; // what 37 tests
 pub mod fresh; // zeros
-pub mod go; // a run over a patch that is read
 pub mod calls; // the public calls: step, run, run_fresh

@@ -1,5 +1,5 @@
 -- Worked files, computed: 01's example, each refusal with a smallest file, and the order of the tests. Assumes nothing.
-use mathlib.Core.Path.{_≡_, refl}
+use mathlib.Core.Path.{_≡_, _∙_, refl, ap, ap₂}
 use mathlib.Core.List.{List, [], _∷_, _++_, map}
 use Prim.Native.Nat.{ℕ, _<_}
 use native.Mathlib.Omega.{arith}
@@ -10,14 +10,16 @@ use Rattle.ops.specs.Bytes.{valuesAt, textAt}
 use Rattle.ops.specs.Kinds.{kindAt, indexOf}
 use Rattle.ops.specs.Refusals.{numberOf}
 use Rattle.ops.specs.Record.{lengthOk, countOf, modeOf, bodyAt, recordAt}
-use Rattle.ops.specs.Op.Control.{end}
+use Rattle.ops.specs.Op.Control.{function, end}
 use Rattle.ops.specs.Op.Plain.{comment, move, offset, put, get}
 use Rattle.ops.specs.Op.Sort.{ints, floats}
 use Rattle.ops.specs.Op.Op.{control, set, load, plain}
-use Rattle.ops.specs.Patch.{walk, patchOf, readOf, markOf}
+use Rattle.ops.specs.Patch.{Loaded, walk, patchOf, readOf, refusedAt, markOf}
 use Rattle.ops.specs.Ops.{rows, rowAt, opAt, opsOf}
 use Rattle.ops.specs.Ops.Patch.{ops, refused}
+use Rattle.ops.specs.Write.{encodeAll}
 use Rattle.ops.specs.declared.reader.Read.{Read}
+use Rattle.ops.proofs.Crowded.{ends, functions}
 
 abbrev read : ℕ → ℕ → ℕ → Read
 read n p o = record { number = n; place = p; ops = o }
@@ -60,11 +62,9 @@ meanings = refl
 
 -- each refusal 1 to 6 with a smallest file, one after an End; then files that break two rules, where the first test's number is
 -- given: under 2 before beyond the file, beyond the file before the kind, the kind before the payload's length, that before the
--- lanes and the mode, "mode over 3" before mode 2 (258), no multiple of 8 before too many values; then 7 and 8, on a walk near its
--- limits: one op still allowed before two Ends, none before a bad record, 256 marks before a Function, 255 before it, and both
--- limits at once, where 7 is first
-pub refusals :
-    map answer (
+-- lanes and the mode, "mode over 3" before mode 2 (258), no multiple of 8 before too many values
+abbrev files : List (List ℕ)
+files =
     (0 ∷ []) ∷
     (2 ∷ 0 ∷ 0 ∷ 0 ∷ []) ∷
     (0 ∷ 0 ∷ 0 ∷ 0 ∷ []) ∷
@@ -87,23 +87,37 @@ pub refusals :
     (11 ∷ 32 ∷ 0 ∷ 0 ∷ 1 ∷ 0 ∷ replicate 8201 0) ∷
     (10 ∷ 32 ∷ 0 ∷ 0 ∷ 1 ∷ 0 ∷ replicate 8200 0) ∷
     (2 ∷ 32 ∷ 0 ∷ 0 ∷ 1 ∷ 0 ∷ replicate 8192 0) ∷
-    [])
-    ++
-    map readOf (
+    []
+
+-- a walk near its limits: one op still allowed before two Ends, none before a bad record, 256 marks before a Function, 255 before
+-- it, and both limits at once, where 7 is first
+abbrev limits : List Loaded
+limits =
     walk (2 ∷ 0 ∷ 0 ∷ 0 ∷ 8 ∷ 0 ∷ 2 ∷ 0 ∷ 0 ∷ 0 ∷ 8 ∷ 0 ∷ []) 1 0 0 ∷
     walk (2 ∷ 0 ∷ 0 ∷ 0 ∷ 40 ∷ 0 ∷ []) 0 0 0 ∷
     walk (2 ∷ 0 ∷ 0 ∷ 0 ∷ 2 ∷ 0 ∷ []) 1 256 0 ∷
     walk (2 ∷ 0 ∷ 0 ∷ 0 ∷ 2 ∷ 0 ∷ []) 1 255 0 ∷
     walk (2 ∷ 0 ∷ 0 ∷ 0 ∷ 2 ∷ 0 ∷ []) 0 256 0 ∷
-    [])
-    ≡
+    []
+
+abbrev answers : List Read
+answers =
     read 1 0 0 ∷ read 1 0 0 ∷ read 2 0 0 ∷ read 2 0 0 ∷ read 3 0 0 ∷ read 4 0 0 ∷ read 4 0 0 ∷ read 5 0 0 ∷ read 6 0 0 ∷ read 6 6 1 ∷
     read 2 0 0 ∷ read 1 0 0 ∷ read 3 0 0 ∷ read 4 0 0 ∷ read 2 0 0 ∷ read 2 0 0 ∷ read 6 0 0 ∷
     read 2 0 0 ∷ read 0 1 1 ∷ read 2 0 0 ∷ read 5 0 0 ∷ read 0 1 1 ∷
     read 7 6 1 ∷ read 3 0 0 ∷ read 8 0 0 ∷ read 0 1 1 ∷ read 7 0 0 ∷
     []
+
+computed : map answer files ++ map readOf limits ≡ answers
 unfolding kindAt indexOf numberOf lengthOk countOf modeOf bodyAt recordAt markOf patchOf readOf
-refusals = refl
+computed = refl
+
+-- 01's numbers 1 to 8 together: 4,097 Ends and 257 marks are smallest files for 7 and 8
+pub refusals :
+    map answer (encodeAll (replicate 4097 (control end)) ∷ encodeAll (replicate 257 (control function)) ∷ files) ++ map readOf limits
+    ≡ read 7 24576 4096 ∷ read 8 1536 256 ∷ answers
+unfolding refusedAt numberOf
+refusals = ap₂ (λ (x y : Read). x ∷ y ∷ (map answer files ++ map readOf limits)) ends functions ∙ ap (λ (l : List Read). read 7 24576 4096 ∷ read 8 1536 256 ∷ l) computed
 
 -- every longer file is 9 at 0, whatever its records; so is one of 65,537 bytes
 pub longer : (s : List ℕ) → 65536 < length s → answer s ≡ read 9 0 0

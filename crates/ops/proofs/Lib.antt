@@ -15,5 +15,6 @@ pub mod Digits
 pub mod Encoded
 pub mod Written
 pub mod RoundTrip
+pub mod Crowded
 pub mod BytesBack
 pub mod Rewritten

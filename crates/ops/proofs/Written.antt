@@ -30,7 +30,7 @@ length-encode o = omega arith
 
 -- the record's three parts, where they stand
 module _ (o : Op) (s : List ℕ) (p : ℕ) (t : List ℕ) (d : drop p s ≡ encode o ++ t) where
-  parts : drop p s ≡ le32 (length (payloadOf o) + 2) ++ (le16 (kindOf o) ++ (payloadOf o ++ t))
+  pub parts : drop p s ≡ le32 (length (payloadOf o) + 2) ++ (le16 (kindOf o) ++ (payloadOf o ++ t))
   unfolding encode recordOf
   parts =
       d
@@ -47,7 +47,7 @@ module _ (o : Op) (s : List ℕ) (p : ℕ) (t : List ℕ) (d : drop p s ≡ enco
       let e : p + 4 + 2 ≡ p + 6 = omega arith in
       ap (λ (k : ℕ). drop k s) (sym e) ∙ after s (p + 4) (le16 (kindOf o)) (payloadOf o ++ t) kind-part
 
-  ends : p + 6 + length (payloadOf o) ≤ length s
+  pub ends : p + 6 + length (payloadOf o) ≤ length s
   ends =
       let l : length (drop p s) ≡ length (encode o ++ t) = ap length d in
       omega (arith, length-drop p s, length-append (encode o) t, length-encode o)

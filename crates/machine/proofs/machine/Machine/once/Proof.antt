@@ -1,10 +1,10 @@
--- `machine::go::once` meets its contract. Assumes nothing.
+-- `machine::machine::Machine::once` meets its contract. Assumes nothing.
 use mathlib.Core.Path.{_∙_, sym}
 use Rattle.machine.specs.Answer.{numberOf, placeOf}
 use Rattle.machine.proofs.Turns.{step-asks, once-done, once-made, once-went}
 use borrow.Author.Needs.{needs}
-use Rattle.machine.proofs.go.once.Statement.{statement}
-use Rattle.machine.proofs.go.once.Tie as tie
+use Rattle.machine.proofs.machine.Machine.once.Statement.{statement}
+use Rattle.machine.proofs.machine.Machine.once.Tie as tie
 
 returns : tie.Need-returns
 unfolding numberOf placeOf

@@ -1,4 +1,4 @@
--- `machine::go::go` meets its contract. Assumes nothing.
+-- `machine::machine::Machine::go` meets its contract. Assumes nothing.
 use mathlib.Core.Path.{_≡_, _∙_, refl, sym}
 use Prim.Native.Nat.{_-_, _≤_}
 use native.Mathlib.Omega.{arith}
@@ -10,18 +10,18 @@ use Rattle.machine_step.specs.Run.{runOf}
 use Rattle.machine.specs.Answer.{numberOf, placeOf}
 use Rattle.machine.specs.Going.{Going}
 use Rattle.machine.proofs.Turns.{run-done, run-spent, run-on, run-refused, step-asks, bytes-of, going-on}
-use Rattle.machine.proofs.go.go.Statement.{statement}
-use Rattle.machine.proofs.go.go.Tie as tie
+use Rattle.machine.proofs.machine.Machine.go.Statement.{statement}
+use Rattle.machine.proofs.machine.Machine.go.Tie as tie
 
 abbrev Inv-loop : tie.InvT-loop
-Inv-loop kinds counts needs places bytes register₀ tape₀ table₀ channel₀ input output₀ budget calls₀ refs₀ h₀ steps₀ register tape table channel output calls refs h steps =
+Inv-loop m₀ kinds counts needs places bytes register₀ tape₀ table₀ channel₀ input output₀ budget calls₀ refs₀ h₀ steps₀ m register tape table channel output calls refs h steps =
     Going bytes input (code kinds counts needs places bytes) (held h calls refs register tape table channel output)
     × (length register ≡ length register₀) × (length tape ≡ length tape₀) × (length table ≡ length table₀) × (length channel ≡ length channel₀) × (length output ≡ length output₀) × (steps ≤ budget)
     × (runOf (budget - steps) steps (code kinds counts needs places bytes) input (held h calls refs register tape table channel output)
     ≡ runOf budget 0 (code kinds counts needs places bytes) input (held h₀ calls₀ refs₀ register₀ tape₀ table₀ channel₀ output₀))
 
 abbrev μ-loop : tie.MeasureT-loop
-μ-loop kinds counts needs places bytes register₀ tape₀ table₀ channel₀ input output₀ budget calls₀ refs₀ h₀ steps₀ register tape table channel output calls refs h steps = budget - steps
+μ-loop m₀ kinds counts needs places bytes register₀ tape₀ table₀ channel₀ input output₀ budget calls₀ refs₀ h₀ steps₀ m register tape table channel output calls refs h steps = budget - steps
 
 returns : tie.Need-returns Inv-loop μ-loop
 unfolding numberOf placeOf

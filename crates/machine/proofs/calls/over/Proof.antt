@@ -1,8 +1,8 @@
--- `machine::go::over` meets its contract. Assumes nothing.
+-- `machine::calls::over` meets its contract. Assumes nothing.
 use mathlib.Core.Path.{refl}
 use Rattle.machine.specs.Going.{overOf}
-use Rattle.machine.proofs.go.over.Statement.{statement}
-use Rattle.machine.proofs.go.over.Tie as tie
+use Rattle.machine.proofs.calls.over.Statement.{statement}
+use Rattle.machine.proofs.calls.over.Tie as tie
 
 returns : tie.Need-returns
 unfolding overOf
