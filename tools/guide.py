@@ -9,7 +9,7 @@ An example is one of these.
 - A row of a table whose last two columns are 'Example' and 'Gives'. Example: the ops in a code span, with ';' between them, as
   patches/make.py takes them; before it 'join' or 'flatten' where it is no run; after it words with a value in a code span: input, cells,
   outputs, budget, position (of a run from a state), room and bodies (of a join or a flattening). 'N * ' before an op or a value repeats it.
-- A block 'patch' with one op a line, and after it a block 'gives', or a block 'trace' with the same words behind its name.
+- A block 'patch' with one op a line, and after it a block 'trace', which has a line for each step, with what its first line names.
 Gives: what to show, each a word and its values; the words are written by hand, the values here. A refusal is always shown.
 A table whose first column is 'Kind' or 'No.' has the example of that kind or number: each kind and each number must have one.
 """
@@ -184,9 +184,9 @@ def traced(example, words):
 
 # ---- the guide
 
-def words_in(parts):
-    """What to show: the first word of each part of a cell, or of each line of a block."""
-    return [part.split()[0] for part in parts if part.split()]
+def words_in(cell):
+    """What a cell shows: the first word of each part."""
+    return [part.split()[0] for part in re.sub("`[^`]*`", "", cell).split(";") if part.split()]
 
 
 def row_example(cell):
@@ -196,12 +196,6 @@ def row_example(cell):
         raise SystemExit("no example: %s" % cell)
     said = dict(re.findall(r", (\w+) `([^`]*)`", found[3]))
     return Example(ops_of(found[2]), (found[1] or "run").strip(), **said)
-
-
-def block_example(info, lines):
-    said = dict(re.findall(r"(\w+)=(\S+)", info.replace(",", " ")))
-    said = {key: value.replace("+", " ") for key, value in said.items()}
-    return Example([line.partition(" #")[0].strip() for line in lines if line.strip()], **said)
 
 
 def kinds_in(example):
@@ -234,10 +228,7 @@ def filled(text):
             end = lines.index("```", i + 1)
             body = lines[i + 1:end]
             if fence[1] == "patch":
-                patch = block_example(fence[2], body)
-                examples.append((patch, False))
-            elif fence[1] == "gives":
-                body = shown(patch, words_in(body))
+                patch = Example(body)
             elif fence[1] == "trace":
                 body = traced(patch, fence[2].split())
                 examples.append((patch, True))
@@ -251,7 +242,7 @@ def filled(text):
             elif head and not set(line) <= set("|-: "):
                 example = row_example(row[-2])
                 examples.append((example, False))
-                row[-1] = "; ".join(shown(example, words_in(re.sub("`[^`]*`", "", row[-1]).split(";"))))
+                row[-1] = "; ".join(shown(example, words_in(row[-1])))
                 line = "| " + " | ".join(row) + " |"
                 found.add(about(head, row, example))
         else:
