@@ -5,6 +5,7 @@ A line of the text is one op, as document 01 names it, with its lane count, valu
 to the reader; 'bytes' is followed by bytes in hex, as they stand, for what is no op.
 
     make.py             writes the files
+    make.py -           writes the patch of a text on standard input to standard output
     make.py --check     says which are not what their text gives, and writes nothing
 """
 import pathlib
@@ -80,6 +81,9 @@ def assemble(text):
 
 
 def main(args):
+    if args == ["-"]:
+        sys.stdout.buffer.write(assemble(sys.stdin.read()))
+        return 0
     stale = []
     for text in sorted(HERE.glob("*.txt")):
         patch = assemble(text.read_text())
@@ -94,6 +98,6 @@ def main(args):
 
 
 if __name__ == "__main__":
-    if sys.argv[1:] not in ([], ["--check"]):
+    if sys.argv[1:] not in ([], ["-"], ["--check"]):
         sys.exit(__doc__)
     sys.exit(main(sys.argv[1:]))
