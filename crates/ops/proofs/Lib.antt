@@ -1,3 +1,4 @@
+pub mod Clash
 pub mod Storage
 pub mod ValuesAt
 pub mod TextAt
@@ -6,6 +7,7 @@ pub mod Room
 pub mod Whole
 pub mod Reading
 pub mod Items
+pub mod Loaded
 pub mod Rows
 pub mod Meaning
 pub mod Unique
@@ -16,3 +18,4 @@ pub mod Written
 pub mod RoundTrip
 pub mod BytesBack
 pub mod Rewritten
+pub mod Fitting
