@@ -1,6 +1,6 @@
 // The patch machine: its limits, its fresh state, a step, a run, and the fresh run.
 pub mod machine; // the machine and what it answers
-pub mod formed; // what 37 tests
-pub mod fresh; // zeros
-pub mod go; // a run over a patch that is read
+mod formed; // what 37 tests
+mod fresh; // zeros
+mod go; // a run over a patch that is read
 pub mod calls; // the public calls: step, run, run_fresh
