@@ -2,11 +2,10 @@
 use Prim.Native.Nat.{ℕ, suc, _+_, _%_, _≤_, _<_}
 use native.Mathlib.Numerals.{add-one}
 use native.Mathlib.Omega.{arith}
-use borrow.Author.Tests.{ltb-false}
 use mathlib.Core.Path.{_≡_, refl, ap, sym, _∙_}
 use mathlib.Core.Bool.{Bool, true, false, cond}
 use mathlib.Core.List.{List, [], _∷_, _++_, append-assoc, append-nil}
-use lib.Dec.{eqb, ltb}
+use lib.Dec.{eqb}
 use lib.ListN.{length, getD, take, drop, length-append, length-drop, drop-of-length-le}
 use lib.Seq.{drop-cons, take-append-seam}
 use Rattle.ops.specs.Bytes.{u32At, textAt}
@@ -15,11 +14,10 @@ use Rattle.ops.specs.Op.Op.{plain}
 use Rattle.ops.specs.Op.Plain.{free}
 use Rattle.ops.specs.Ops.{Patch, opsOf}
 use Rattle.ops.specs.Ops.Patch.{ops}
-use Rattle.ops.specs.Patch.{stop, walk, patchOf}
-use Rattle.ops.specs.Refusals.{numberOf}
-use Rattle.ops.specs.declared.refusals.Refusal.the-variants.{FileTooLong}
+use Rattle.ops.specs.Patch.{patchOf}
 use Rattle.ops.specs.Write.{le16, le32, recordOf, placed, payloadOf, encode, encodeAll, Below}
 use Rattle.ops.proofs.Digits.{after, at32}
+use Rattle.ops.proofs.Fitting.{short, below-all}
 use Rattle.ops.proofs.Meaning.{ops-are}
 use Rattle.ops.proofs.Rewritten.{bytes-back}
 use Rattle.ops.proofs.Storage.{placed-none, placed-then, length-placed}
@@ -38,18 +36,6 @@ module _ (s : List ℕ) (z : patchOf s .number ≡ 0) where
 
   pub file-bytes : Below 256 s → encodeAll (opsIn s) ≡ s
   file-bytes w = bytes-back s w (opsIn s) held-is
-
-  pub short : length s ≤ 65536
-  unfolding patchOf numberOf
-  short = by (ltb 65536 (length s)) refl z
-    where
-      by : (b : Bool) → ltb 65536 (length s) ≡ b → cond b (stop FileTooLong 0) (walk s 4096 0 0) .number ≡ 0 → length s ≤ 65536
-      by true e q = absurd (omega (arith, q))
-      by false e q = ltb-false 65536 (length s) e
-
-pub below-all : (s : List ℕ) → ((i : ℕ) → getD s i 0 < 256) → Below 256 s
-below-all [] h = tt
-below-all (x ∷ s) h = (h 0, below-all s (λ i. h (suc i)))
 
 pub encode-length : (xs ys : List Op) → length (encodeAll (xs ++ ys)) ≡ length (encodeAll xs) + length (encodeAll ys)
 encode-length xs ys = ap length (encode-append xs ys) ∙ length-append (encodeAll xs) (encodeAll ys)

@@ -2,12 +2,11 @@
 use Prim.Native.Nat.{ℕ, zero, suc, _+_, _≤_, _<_}
 use native.Mathlib.Nat.{not-suc-le-zero, le-of-suc-le-suc, zero-add}
 use native.Mathlib.Omega.{arith}
-use borrow.Author.Tests.{eq-eqb, ne-eqb, lt-ltb, le-ltb}
+use borrow.Author.Tests.{lt-ltb, le-ltb}
 use mathlib.Core.Path.{_≡_, refl, ap, ap₂, sym, _∙_}
 use mathlib.Core.Bool.{true, false}
 use mathlib.Core.List.{List, [], _∷_, _++_, map}
-use lib.ListN.{length, getD, take, drop, length-map, length-append, List·getD-map}
-use lib.Seq.{take-at}
+use lib.ListN.{length, getD, take, length-map, length-append, List·getD-map}
 use Rattle.ops.specs.Op.{Op}
 use Rattle.ops.specs.Op.Op.{control, set, load, plain}
 use Rattle.ops.specs.Op.Plain.{free}
@@ -17,7 +16,9 @@ use Rattle.ops.specs.Ops.{rows, rowAt, opWith, opAt}
 use Rattle.ops.specs.Write.{encodeAll, markIn, marksIn}
 use Rattle.ops.specs.declared.reader.Read.{Read}
 use Rattle.ops.proofs.Encoded.{known}
-use Rattle.ops.proofs.Items.{IsItem, Every, items-are, few-items}
+use Rattle.ops.proofs.Items.{IsItem, Every, items-are}
+use Rattle.ops.proofs.Fitting.{below-all}
+use Rattle.ops.proofs.Loaded as loaded
 use Rattle.ops.proofs.Meaning.{means, ops-are, refused-are}
 use Rattle.ops.proofs.Whole.{tells}
 use Rattle.flattening.specs.Flatten.{Note, note, notes, Numbered, number, body, bodies, gathered, others, laid, flatten, Flat}
@@ -32,7 +33,7 @@ use Rattle.flattening.specs.declared.answer.Flattened.the-variants.{BadF
 use Rattle.flattening.specs.declared.numbering.Numbering.the-variants as numbering
 use Rattle.flattening.proofs.Flattened.{same-ops, same-bytes}
 use Rattle.flattening.proofs.FewBodies.{few-bodies, length-bodies}
-use Rattle.flattening.proofs.Copying.{held-is, file-bytes, below-all}
+use Rattle.flattening.proofs.Copying.{held-is, file-bytes}
 
 -- ---- rows and ops
 
@@ -93,49 +94,35 @@ done-told x owner seen m k n e h q = ap (λ (j : ℕ). numbered (take j owner) s
 -- ---- a bad file
 
 module _ (s : List ℕ) (r : Read) (e : r ≡ readOf (patchOf s)) where
-  number-is : r .number ≡ patchOf s .number
-  unfolding readOf
-  number-is = ap (λ (a : Read). a .number) e
-
-  bad-place : (r .number ≡ 0 → ⊥) → r .place ≡ patchOf s .place
-  unfolding readOf
-  bad-place z = ap (λ (a : Read). a .place) e ∙ rw (ne-eqb (patchOf s .number) 0 (λ (q : patchOf s .number ≡ 0). z (number-is ∙ q)))
-
   pub bad-file : (o ns fs ks : List ℕ) → (r .number ≡ 0 → ⊥) → outcome (BadFile (r .number) (r .place)) o ns fs ks ≡ flattenOf s o ns fs ks
   unfolding flattenOf
-  bad-file o ns fs ks z = rw (refused-are s (λ (q : patchOf s .number ≡ 0). z (number-is ∙ q)), number-is, bad-place z)
+  bad-file o ns fs ks z = rw (refused-are s (loaded.bad-file s r e z), loaded.number-is s r e, loaded.bad-place s r e z)
 
 -- ---- a good file
 
 module _ (s : List ℕ) (r : Read) (e : r ≡ readOf (patchOf s)) (z : r .number ≡ 0) where
   pub good : patchOf s .number ≡ 0
-  good = sym (number-is s r e) ∙ z
-
-  place-is : r .place ≡ length (patchOf s .items)
-  unfolding readOf
-  place-is = ap (λ (a : Read). a .place) e ∙ rw (eq-eqb (patchOf s .number) 0 good)
+  good = loaded.good-file s r e z
 
   ops-here : opsIn s ≡ map (opAt s) (patchOf s .items)
   unfolding opsIn
   ops-here = ap held (ops-are s good)
 
   pub op-count : length (opsIn s) ≡ r .place
-  op-count = ap length ops-here ∙ length-map (patchOf s .items) (opAt s) ∙ sym place-is
+  op-count = ap length ops-here ∙ length-map (patchOf s .items) (opAt s) ∙ sym (loaded.place-is s r e z)
 
   pub op-few : r .place ≤ 4096
-  op-few = omega (arith, place-is, few-items s)
+  op-few = loaded.few s r e z
 
   module _ (k₀ k : List ℕ) (ek : k ≡ fill (map kindIn (patchOf s .items)) k₀) where
     kinds-are : take (r .place) k ≡ map kindIn (patchOf s .items)
-    unfolding fill
-    kinds-are = ap (take (r .place)) ek ∙ take-at (map kindIn (patchOf s .items)) (drop (length (map kindIn (patchOf s .items))) k₀) (r .place) (length-map (patchOf s .items) kindIn ∙ sym place-is)
+    kinds-are = loaded.part-is s r e z kindIn k k₀ ek
 
     pub kinds-length : length (take (r .place) k) ≡ r .place
-    kinds-length = ap length kinds-are ∙ length-map (patchOf s .items) kindIn ∙ sym place-is
+    kinds-length = sym (loaded.part-length s r e z kindIn k k₀ ek)
 
     pub kinds-fit : r .place ≤ length k
-    unfolding fill
-    kinds-fit = omega (arith, ap length ek, place-is, length-append (map kindIn (patchOf s .items)) (drop (length (map kindIn (patchOf s .items))) k₀), length-map (patchOf s .items) kindIn)
+    kinds-fit = loaded.part-fits s r e z kindIn k k₀ ek
 
     notes-here : rowNotes (take (r .place) k) ≡ notes (opsIn s)
     notes-here = ap rowNotes kinds-are ∙ notes-are s (patchOf s .items) (items-are s) ∙ ap notes (sym ops-here)

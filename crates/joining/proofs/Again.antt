@@ -15,6 +15,7 @@ use Rattle.ops.specs.Ops.{opsOf}
 use Rattle.ops.specs.Ops.Patch.{ops, refused}
 use Rattle.ops.specs.Op.{Op, argOf, valuesOf}
 use Rattle.ops.specs.Write.{encodeAll, Below, Fits, EachFits, markIn, marksIn, AllFit}
+use Rattle.ops.proofs.Fitting.{file-fit}
 use Rattle.ops.proofs.Rewritten.{bytes-back}
 use Rattle.ops.proofs.RoundTrip.{ops-back}
 use Rattle.joining.specs.Join.{join}
@@ -23,7 +24,6 @@ use Rattle.joining.specs.declared.join.Joined.{Joined}
 use Rattle.joining.specs.declared.join.Joined.the-variants.{NoRoom}
 use Rattle.joining.proofs.Pushes.{Each, weigh, join-light, join-has}
 use Rattle.joining.proofs.Sizes.{join-shorter}
-use Rattle.joining.proofs.Fitting.{file-fit}
 
 -- ---- the limits
 

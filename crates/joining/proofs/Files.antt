@@ -2,11 +2,11 @@
 use mathlib.Core.Path.{_≡_, refl, ap, ap₂, sym, _∙_}
 use Prim.Native.Nat.{ℕ, zero, suc, _<_, _≤_}
 use native.Mathlib.Omega.{arith}
-use mathlib.Core.List.{List, [], _∷_, map}
+use mathlib.Core.List.{List, map}
 use lib.ListN.{length, getD, drop, length-append, length-drop, length-map, length-reverse, List·getD-append, List·getD-map}
 use mir.Val.{Fits}
 use mir.Syntax.{w8}
-use borrow.Author.Tests.{eq-eqb, ne-eqb, lt-ltb, le-ltb}
+use borrow.Author.Tests.{lt-ltb, le-ltb}
 use Rattle.ops.specs.Storage.{fill}
 use Rattle.ops.specs.Patch.{Item, item, kindIn, countIn, placeIn, patchOf, readOf}
 use Rattle.ops.specs.Ops.{opAt, opsOf}
@@ -14,7 +14,9 @@ use Rattle.ops.specs.Ops.Patch.{ops}
 use Rattle.ops.specs.Write.{encodeAll, Below}
 use Rattle.ops.specs.declared.reader.Read.{Read}
 use Rattle.ops.proofs.Items.{few-items}
+use Rattle.ops.proofs.Loaded as loaded
 use Rattle.ops.proofs.Meaning.{ops-are, refused-are}
+use Rattle.ops.proofs.Fitting.{below-all}
 use Rattle.ops.proofs.Rewritten.{bytes-back}
 use Rattle.joining.specs.Join.{join}
 use Rattle.joining.specs.Joined.{outcome, joinedAs, joinOf}
@@ -27,8 +29,7 @@ use Rattle.joining.proofs.Sizes.{join-shorter}
 
 -- a slice of bytes has numbers below 256
 pub all-below : (s : List ℕ) → ((i : ℕ) → Fits w8 (getD s i 0)) → Below 256 s
-all-below [] f = tt
-all-below (x ∷ s) f = (f 0 .fits, all-below s (λ i. f (suc i)))
+all-below s f = below-all s (λ i. f i .fits)
 
 -- ---- the arrays
 
@@ -52,31 +53,22 @@ module _ (f : Item → ℕ) (s old new : List ℕ) (e : new ≡ fill (map f (pat
 -- ---- the answers
 
 module _ (s : List ℕ) (r : Read) (e : r ≡ readOf (patchOf s)) where
-  number-is : r .number ≡ patchOf s .number
-  unfolding readOf
-  number-is = ap (λ (x : Read). x .number) e
-
   pub bad-file : (out : List ℕ) → (r .number ≡ 0 → ⊥) → outcome (BadFile (r .number) (r .place)) out ≡ joinOf s out
-  unfolding joinOf readOf
+  unfolding joinOf
   bad-file out n =
-      let m : patchOf s .number ≡ 0 → ⊥ = λ z. n (number-is ∙ z) in
-      let p : r .place ≡ patchOf s .place = ap (λ (x : Read). x .place) e ∙ rw (ne-eqb (patchOf s .number) 0 m) refl in
-      ap₂ (λ (a b : ℕ). outcome (BadFile a b) out) number-is p ∙ sym (ap (λ x. joinedAs x s out) (refused-are s m))
+      ap₂ (λ (a b : ℕ). outcome (BadFile a b) out) (loaded.number-is s r e) (loaded.bad-place s r e n)
+      ∙ sym (ap (λ x. joinedAs x s out) (refused-are s (loaded.bad-file s r e n)))
 
   module _ (z : r .number ≡ 0) where
     is-patch : opsOf s ≡ ops (map (opAt s) (patchOf s .items))
-    is-patch = ops-are s (sym number-is ∙ z)
+    is-patch = ops-are s (loaded.good-file s r e z)
 
     pub no-room : (out : List ℕ) → length out < length s → outcome NoRoom out ≡ joinOf s out
     unfolding joinOf
     no-room out l = sym (ap (λ x. joinedAs x s out) is-patch ∙ rw (lt-ltb (length out) (length s) l) refl)
 
     many : r .place ≡ length (patchOf s .items)
-    unfolding readOf
-    many = ap (λ (x : Read). x .place) e ∙ rw (eq-eqb (patchOf s .number) 0 (sym number-is ∙ z)) refl
-
-    pub few : r .place ≤ 4096
-    few = rw many (few-items s)
+    many = loaded.place-is s r e z
 
     module _ (k₀ c₀ p₀ k c p : List ℕ)
         (ek : k ≡ fill (map kindIn (patchOf s .items)) k₀) (ec : c ≡ fill (map countIn (patchOf s .items)) c₀) (ep : p ≡ fill (map placeIn (patchOf s .items)) p₀) where

@@ -5,5 +5,4 @@ pub mod Seen
 pub mod Records
 pub mod Sizes
 pub mod Files
-pub mod Fitting
 pub mod Again

@@ -10,11 +10,9 @@ use borrow.Author.Tests.{eqb-true}
 use Rattle.ops.specs.Op.{Op, kindOf}
 use Rattle.ops.specs.Op.Plain.{move}
 use Rattle.ops.specs.Op.Op.{plain}
+use Rattle.ops.proofs.Clash.{clash}
 use Rattle.joining.specs.Join.{Rule, both, alike, decided, tested, total, rule, moved, react, op, pushes, join}
 use Rattle.joining.specs.Join.Rule.{push, skip, pop, again, under, sum}
-
-pub clash : {P : Type 0} → _≡_ {A = ℕ} 0 1 → P
-clash z = absurd (omega (arith, z))
 
 -- ---- a move
 

@@ -29,8 +29,8 @@ use Rattle.ops.proofs.Storage.{placed-then, placed-none}
 use Rattle.ops.proofs.Whole.{tells}
 use Rattle.ops.proofs.Items.{IsItem}
 use Rattle.ops.proofs.Rewritten.{record-again}
+use Rattle.ops.proofs.Clash.{clash}
 use Rattle.joining.specs.Stack.{Entry, entry, valued, valueOf, pushOn, itemAt, Holds, after, opWithin, opOf, stack, file, Within}
-use Rattle.joining.proofs.Pushes.{clash}
 use Rattle.joining.proofs.Seen.{is-item}
 
 -- ---- an op of the file

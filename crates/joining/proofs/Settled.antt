@@ -1,7 +1,5 @@
 -- Joining is idempotent: no op of a joined patch reacts with the one before it, so that each is pushed as it is. Assumes nothing.
 use mathlib.Core.Path.{_≡_, refl, ap, sym, _∙_}
-use Prim.Native.Nat.{ℕ}
-use native.Mathlib.Omega.{arith}
 use mathlib.Core.Bool.{Bool, true, false, cond}
 use mathlib.Core.List.{List, [], _∷_, _++_, reverse, reverse-cons}
 use lib.Dec.{eqb}
@@ -9,9 +7,10 @@ use borrow.Author.Tests.{eqb-true}
 use Rattle.ops.specs.Op.{Op, kindOf}
 use Rattle.ops.specs.Op.Plain.{move}
 use Rattle.ops.specs.Op.Op.{plain}
+use Rattle.ops.proofs.Clash.{clash}
 use Rattle.joining.specs.Join.{Rule, total, rule, moved, react, op, pushes, join}
 use Rattle.joining.specs.Join.Rule.{push, pop, sum}
-use Rattle.joining.proofs.Pushes.{clash, Ruled, ruled}
+use Rattle.joining.proofs.Pushes.{Ruled, ruled}
 use Rattle.joining.proofs.Pushes.Ruled.{pushed, skipped, popped, renewed, tried, swapped, summed}
 
 -- the new op is pushed on the last one as it is

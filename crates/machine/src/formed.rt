@@ -4,45 +4,46 @@ ghost use Prim.Native.Nat.{ℕ, _+_, _≤_, _<_};
 ghost use lib.ListN.{length};
 ghost use Rattle.machine_step.specs.Held.{held};
 ghost use Rattle.machine.specs.Formed.{hasRoom, inLimits, inPlace, callsBelow, refsWithin, tableNames, isFormed};
+use crate::machine::Machine;
 use machine_ops::place::Place;
 
 pub fn has_room(register: &[u64], table: &[u16], channel: &[u64]) -> bool
     ensures { λ r. ⌜ r ≡ hasRoom (now (register .entry)) (now (table .entry)) (now (channel .entry)) ⌝ }
 {
-    if register.len() < 1024 {
+    if register.len() < Machine::LANES {
         return false;
     }
-    if table.len() < 256 {
+    if table.len() < Machine::MARKS {
         return false;
     }
-    256 <= channel.len()
+    Machine::CHANNEL <= channel.len()
 }
 
 fn in_limits(h: Place) -> bool
     ensures { λ r. ⌜ r ≡ inLimits h ⌝ }
 {
-    if 1000000000 < h.pointer {
+    if Machine::POINTER < h.pointer {
         return false;
     }
-    if 2000000000 < h.length {
+    if Machine::LENGTH < h.length {
         return false;
     }
-    if 1024 < h.lanes {
+    if Machine::LANES < h.lanes {
         return false;
     }
-    if 256 < h.functions {
+    if Machine::MARKS < h.functions {
         return false;
     }
-    if 256 < h.depth {
+    if Machine::CALLS < h.depth {
         return false;
     }
-    if 256 < h.saved {
+    if Machine::REFS < h.saved {
         return false;
     }
-    if 256 < h.waiting {
+    if Machine::CHANNEL < h.waiting {
         return false;
     }
-    h.first < 256
+    h.first < Machine::CHANNEL
 }
 
 fn in_place(h: Place, ops: usize, inputs: usize, outputs: usize) -> bool

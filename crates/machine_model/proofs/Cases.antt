@@ -1,4 +1,5 @@
--- Runs that the table of 01-scope.md lacks, computed and compared as one list. Assumes nothing.
+-- Runs that the table of 01-scope.md lacks, computed from the model. one_table puts them behind 01's cases, as one list; `all` has them here
+-- too, so that this crate refuses a step that is another. Assumes nothing.
 use Prim.Native.Nat.{ℕ, _-_, _^_}
 use mathlib.Core.Path.{_≡_, refl}
 use mathlib.Core.List.{List, [], _∷_, _++_, map}
@@ -15,12 +16,12 @@ use Rattle.machine_model.specs.Run.{Answer, run}
 
 -- a run from the fresh state: the lent tape, the room for outputs and the budget, the ops, and what is seen of the answer: number, steps and
 -- place, then lane 0, pointer, counted length and outputs
-record Case : Type 0 where
-  tape : List ℕ
-  room : ℕ
-  budget : ℕ
-  ops : List Op
-  seen : List ℕ
+pub record Case : Type 0 where
+  pub tape : List ℕ
+  pub room : ℕ
+  pub budget : ℕ
+  pub ops : List Op
+  pub seen : List ℕ
 
 -- four cells of tape, room for four outputs, and a budget that suffices
 ran : List Op → List ℕ → Case
@@ -37,17 +38,18 @@ upon v os l = record { tape = v ∷ []; room = 0; budget = 100_000; ops = os; se
 show : Answer → List ℕ
 show a = a .number ∷ a .steps ∷ a .place ∷ lane0 (a .state) ∷ a .state .pointer ∷ a .state .counted ∷ a .state .outs
 
-tried : Case → List ℕ
+unfoldable pub tried : Case → List ℕ
 unfolding show run fresh
 tried c = show (run (record { ops = c .ops; input = []; room = c .room }) (c .budget) (withTape (fresh 0) (c .tape)))
 
-one : ℕ → Op
+unfoldable pub one : ℕ → Op
 one v = set ints (v ∷ [])
 
 out : Op
 out = plain (put Char)
 
-minus : ℕ → ℕ
+-- integers below 0, by their bits
+unfoldable pub minus : ℕ → ℕ
 minus n = 2 ^ 64 - n
 
 -- ---- brackets
@@ -170,7 +172,7 @@ refusals =
     ∷ upon 0 (plain (put Other) ∷ out ∷ []) (36 ∷ 1 ∷ 1 ∷ 0 ∷ 0 ∷ 0 ∷ [])
     ∷ []
 
-cases : List Case
+unfoldable pub cases : List Case
 unfolding loops ifs elses functions tapes talks budgets refusals
 cases = loops ++ ifs ++ elses ++ functions ++ tapes ++ talks ++ budgets ++ refusals
 

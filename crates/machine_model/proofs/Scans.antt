@@ -10,10 +10,8 @@ use Rattle.ops.specs.Op.{Op, Mark, mark, isFunction, isWhile}
 use Rattle.ops.specs.Op.Op.{plain}
 use Rattle.ops.specs.Op.Plain.{comment}
 use Rattle.ops.specs.Op.Mark.{up, down, mid, flat}
+pub use Rattle.ops.proofs.Clash.{clash}
 use Rattle.machine_model.specs.Scan.{opAt, marks, functions, toEnd, toElse, kth}
-
-pub clash : {P : Type 0} → _≡_ {A = ℕ} 0 1 → P
-clash z = absurd (omega arith)
 
 pub length-marks : (os : List Op) → length (marks os) ≡ length os
 length-marks [] = refl

@@ -1,18 +1,23 @@
--- The thirteen cases of 01-scope.md ('Proved by one table'), computed from the definitions of run, check, joining and flattening and compared
--- as one list. Assumes nothing.
-use Prim.Native.Nat.{ℕ, _-_, _^_}
+-- The thirteen cases of 01-scope.md ('Proved by one table') and what its list lacks: runs that meet each bracket, function, growth and refusal, and
+-- a ring that wraps. Computed from the definitions of run, check, joining, flattening and channel, and compared as one list. Assumes nothing.
+use Prim.Native.Nat.{ℕ, zero, suc, _^_}
 use mathlib.Core.Path.{_≡_, refl}
 use mathlib.Core.List.{List, [], _∷_, _++_, map}
+use lib.ListN.{length, replicate}
 use Rattle.lanes.specs.declared.lane.CellOp.the-variants.{Div, Rem, LeftShift, Add}
 use Rattle.lanes.specs.declared.lane.LaneOp.the-variants.{ToFloat, ToInt}
 use Rattle.ops.specs.declared.op.Mode.the-variants.{Char, Int}
 use Rattle.ops.specs.Op.{Op, Plain, kindOf, argOf, valuesOf}
 use Rattle.ops.specs.Op.Control.{function, call, ret, if, end}
 use Rattle.ops.specs.Op.Plain.{comment, move, deref, refer, store, put, get, alloc, cell, lane}
-use Rattle.ops.specs.Op.Sort.{ints}
-use Rattle.ops.specs.Op.Op.{control, set, load, plain}
+use Rattle.ops.specs.Op.Op.{control, load, plain}
+use Rattle.testing_device.specs.Channel.{peekOf, pokeIn}
+use Rattle.testing_device.specs.declared.device.Peeked.{Peeked}
+use Rattle.testing_device.specs.declared.device.Peeked.the-variants as peeked
 use Rattle.machine_model.specs.State.{fresh, lane0}
 use Rattle.machine_model.specs.Run.{Answer, run}
+use Rattle.machine_model.proofs.Cases.{one, minus}
+use Rattle.machine_model.proofs.Cases as more
 use Rattle.patch_check.specs.Check.{check}
 use Rattle.patch_check.specs.Verdict.{numberOf, placeOf}
 use Rattle.patch_check.specs.declared.verdict.Verdict.{Verdict}
@@ -20,10 +25,13 @@ use Rattle.joining.specs.Join.{join}
 use Rattle.flattening.specs.Flatten.{flatten, Flat, Body}
 use Rattle.flattening.specs.Flatten.Flat.{loose, flat}
 
--- a patch and its input, checked and run as the runner does; a patch joined; a patch flattened
+-- a patch and its input, checked and run as the runner does; a patch joined; a patch flattened; a run over a tape, a room and a budget of its
+-- own; values sent to an empty ring that starts at a place, and taken again
 data Try : Type 0 where
   ran : List Op → List ℕ → Try
   joined flattened : List Op → Try
+  run-in : more.Case → Try
+  rung : ℕ → List ℕ → Try
 
 record Case : Type 0 where
   make : Try
@@ -49,19 +57,32 @@ unfolding show-ops show-bodies
 show-flat (loose p) = 10 ∷ p ∷ []
 show-flat (flat os bs) = show-bodies bs ++ show-ops os
 
+-- a ring after values were sent to it
+sent : List ℕ → ℕ → ℕ → List ℕ → List ℕ
+unfolding pokeIn
+sent channel first waiting [] = channel
+sent channel first waiting (v ∷ vs) = sent (pokeIn v channel first waiting .channel) first (suc waiting) vs
+
+-- a value that was taken, and what follows it
+before : Peeked → (ℕ → ℕ → List ℕ) → List ℕ
+before (peeked.Value v first waiting) rest = v ∷ rest first waiting
+before peeked.Empty rest = []
+before peeked.NotARing rest = []
+
+-- so many values taken from a ring, then its first place and how many wait
+show-ring : ℕ → List ℕ → ℕ → ℕ → List ℕ
+unfolding peekOf before
+show-ring zero channel first waiting = first ∷ waiting ∷ []
+show-ring (suc n) channel first waiting = before (peekOf channel first waiting) (λ f w. show-ring n channel f w)
+
 -- "4,096 cells, room for 4,096 outputs, budget 100,000"
 tried : Try → List ℕ
-unfolding show-run run check fresh show-ops show-flat join flatten
+unfolding show-run run check fresh show-ops show-flat join flatten more.tried sent show-ring
 tried (ran os vs) = show-run (check os) (run (record { ops = os; input = vs; room = 4096 }) 100_000 (fresh 4096))
 tried (joined os) = show-ops (join os)
 tried (flattened os) = show-flat (flatten os)
-
-one : ℕ → Op
-one v = set ints (v ∷ [])
-
--- integers below 0, by their bits
-minus : ℕ → ℕ
-minus n = 2 ^ 64 - n
+tried (run-in c) = more.tried c
+tried (rung first vs) = show-ring (length vs) (sent (replicate 256 0) first 0 vs) first (length vs)
 
 least : ℕ
 least = 2 ^ 63
@@ -79,9 +100,9 @@ prints v os = control function ∷ one v ∷ plain (put Char) ∷ control ret �
 case : Try → List ℕ → Case
 case t l = record { make = t; seen = l }
 
-cases : List Case
+thirteen : List Case
 unfolding on one case minus least prints
-cases =
+thirteen =
     -- 1. least / -1, least % -1, -7 / 2, -7 % 2: least, 0, -3, -1
     case (ran (on least (minus 1) (cell Div 1)) []) (0 ∷ 4 ∷ 0 ∷ 4 ∷ 4 ∷ least ∷ 0 ∷ 100_000 ∷ [])
     ∷ case (ran (on least (minus 1) (cell Rem 1)) []) (0 ∷ 4 ∷ 0 ∷ 4 ∷ 4 ∷ 0 ∷ 0 ∷ 100_000 ∷ [])
@@ -113,6 +134,15 @@ cases =
     ∷ case (ran (one 9007199254740993 ∷ plain (lane ToFloat 1) ∷ []) []) (0 ∷ 2 ∷ 0 ∷ 2 ∷ 2 ∷ 0x4340000000000000 ∷ 0 ∷ 0 ∷ [])
     ∷ case (ran (one 9007199254740993 ∷ plain (lane ToFloat 1) ∷ plain (lane ToInt 1) ∷ []) []) (0 ∷ 3 ∷ 0 ∷ 3 ∷ 3 ∷ 9007199254740992 ∷ 0 ∷ 0 ∷ [])
     ∷ []
+
+-- three values over the end of the ring: the places 255, 0 and 1
+wraps : Case
+unfolding case
+wraps = case (rung 255 (7 ∷ 8 ∷ 9 ∷ [])) (7 ∷ 8 ∷ 9 ∷ 2 ∷ 0 ∷ [])
+
+cases : List Case
+unfolding thirteen wraps case more.cases
+cases = thirteen ++ map (λ c. case (run-in c) (c .seen)) more.cases ++ (wraps ∷ [])
 
 all : map (λ c. tried (c .make)) cases ≡ map (λ c. c .seen) cases
 unfolding tried cases

@@ -1,3 +1,4 @@
+pub mod Clash
 pub mod Storage
 pub mod ValuesAt
 pub mod TextAt
@@ -7,6 +8,7 @@ pub mod AnyFile
 pub mod Whole
 pub mod Reading
 pub mod Items
+pub mod Loaded
 pub mod Rows
 pub mod Meaning
 pub mod Unique
@@ -18,3 +20,4 @@ pub mod RoundTrip
 pub mod Crowded
 pub mod BytesBack
 pub mod Rewritten
+pub mod Fitting

@@ -2,12 +2,11 @@
 use mathlib.Core.Path.{_≡_, refl, _∙_, sym, ap}
 use mathlib.Core.Bool.{cond}
 use mathlib.Core.List.{List, [], _∷_, map}
-use Prim.Native.Nat.{ℕ, zero, suc, _+_, _<_, _≤_}
+use Prim.Native.Nat.{ℕ, _+_, _<_, _≤_}
 use native.Mathlib.Omega.{arith}
 use borrow.Author.Tests.{eq-eqb, ne-eqb}
 use lib.Dec.{eqb}
-use lib.ListN.{length, getD, drop, length-take, length-drop}
-use Rattle.ops.specs.Bytes.{valuesAt, textAt}
+use lib.ListN.{length, getD}
 use Rattle.ops.specs.Kinds.{shape, need, indexOf, runNeed}
 use Rattle.ops.specs.Record.{countOf}
 use Rattle.ops.specs.Op.{Control, Plain, Op, kindOf, plainKind, needs, needsOf, plainNeeds}
@@ -17,6 +16,8 @@ use Rattle.ops.specs.Op.Op.{control, set, load, plain}
 use Rattle.ops.specs.Patch.{Item, kindIn, countIn, needIn, patchOf}
 use Rattle.ops.specs.Ops.{rowAt, plainWith, opWith, opAt, plainCount, opCount, opsOf}
 use Rattle.ops.specs.Ops.Patch.{ops, refused}
+use Rattle.ops.proofs.ValuesAt.{length-values}
+use Rattle.ops.proofs.TextAt.{length-text}
 use Rattle.ops.proofs.Whole.{Tells, tells}
 use Rattle.ops.proofs.Items.{IsItem, Every, items-are, item-at}
 use Rattle.ops.proofs.Rows.{controlRule, plainRule, rule, Row, row-rule}
@@ -97,19 +98,10 @@ module _ (s : List ℕ) (p n : ℕ) where
 
 -- ---- what a payload counts
 
-values-length : (s : List ℕ) (p n : ℕ) → length (valuesAt s p n) ≡ n
-unfolding valuesAt
-values-length s p zero = refl
-values-length s p (suc n) = ap suc (values-length s (p + 8) n)
-
-text-length : (s : List ℕ) (p n : ℕ) → p + n ≤ length s → length (textAt s p n) ≡ n
-unfolding textAt
-text-length s p n h = omega (arith, length-take n (drop p s), length-drop p s)
-
 module _ (s : List ℕ) (p l n : ℕ) (h : p + l ≤ length s) where
   plain-count : (q : Plain) → n ≡ countOf s (shape (plainRule q)) p l → plainCount (plainWith s p n q) ≡ n
   unfolding countOf
-  plain-count (comment bs) e = text-length s p n (omega (arith, e, h))
+  plain-count (comment bs) e = length-text s p n (omega (arith, e, h))
   plain-count (store m) e = sym e
   plain-count (move v) e = sym e
   plain-count (swap m) e = sym e
@@ -129,7 +121,7 @@ module _ (s : List ℕ) (p l n : ℕ) (h : p + l ≤ length s) where
   count-with : (o : Op) → n ≡ countOf s (shape (rule o)) p l → opCount (opWith s p n o) ≡ n
   unfolding countOf
   count-with (control c) e = sym e
-  count-with (set k vs) e = values-length s p n
+  count-with (set k vs) e = length-values s p n
   count-with (load m) e = sym e
   count-with (plain q) e = plain-count q e
 

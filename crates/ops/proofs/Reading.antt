@@ -3,13 +3,13 @@ use mathlib.Core.Path.{_≡_, refl, _∙_, sym, ap}
 use mathlib.Core.Bool.{Bool, true, false, cond}
 use mathlib.Core.List.{List, [], _∷_, _++_, map, append-nil, map-append}
 use Prim.Native.Nat.{ℕ, zero, suc, _+_, _-_, _<_, _≤_}
-use native.Mathlib.Numerals.{add-one}
 use native.Mathlib.Omega.{arith}
 use borrow.Author.Tests.{lt-ltb, le-ltb}
 use lib.Dec.{eqb}
-use lib.ListN.{length, drop, set, length-append, length-map}
-use lib.Seq.{append-snoc, set-at, drop-cons}
+use lib.ListN.{length, set, length-append, length-map}
+use lib.Seq.{append-snoc}
 use Rattle.ops.specs.Storage.{fill}
+use Rattle.ops.proofs.Storage.{fill-snoc}
 use Rattle.ops.specs.Kinds.{need, kindAt, runNeed}
 use Rattle.ops.specs.Refusals.{numberOf}
 use Rattle.ops.specs.Record.{recordAt, recordFrom}
@@ -51,16 +51,6 @@ module _ (s : List ℕ) (m p : ℕ) where
 
 -- ---- an array filled one entry further
 
-fill-snoc : (xs old : List ℕ) (v n : ℕ) → length xs ≡ n → n < length old → set (fill xs old) n v ≡ fill (xs ++ (v ∷ [])) old
-unfolding fill
-fill-snoc xs old v n e h =
-    let h′ : length xs < length old = omega arith in
-    ap (λ (r : List ℕ). set (xs ++ r) n v) (drop-cons old (length xs) 0 h′)
-    ∙ set-at xs _ _ v n e
-    ∙ sym (append-snoc xs v (drop (suc (length xs)) old))
-    ∙ ap (λ (k : ℕ). (xs ++ (v ∷ [])) ++ drop k old) (sym (length-append xs (v ∷ []) ∙ add-one (length xs)))
-
--- a field of the items
 fill-item : (f : Item → ℕ) (acc : List Item) (x : Item) (old new : List ℕ) (n v : ℕ) → length acc ≡ n → length old ≡ 4096 → n < 4096
     → v ≡ f x → new ≡ fill (map f acc) old → set new n v ≡ fill (map f (acc ++ (x ∷ []))) old
 fill-item f acc x old new n v e h r w q =

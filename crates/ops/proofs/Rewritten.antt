@@ -25,12 +25,10 @@ use Rattle.ops.specs.Ops.Patch.{ops, refused}
 use Rattle.ops.specs.Write.{le16, le32, modeNumber, recordOf, payloadOf, encode, encodeAll, Below}
 use Rattle.ops.proofs.TextAt.{length-text}
 use Rattle.ops.proofs.BytesBack.{text-add, back16, back32, back64, back-values}
+use Rattle.ops.proofs.Clash.{clash}
 use Rattle.ops.proofs.Rows.{rule, row-rule}
 use Rattle.ops.proofs.Whole.{tells}
 use Rattle.ops.proofs.Meaning.{means}
-
-clash : {P : Type 0} → _≡_ {A = ℕ} 0 1 → P
-clash z = absurd (omega (arith, z))
 
 -- ---- the payload
 

@@ -1,4 +1,5 @@
--- Computed cases of the device: case 8 of the table, the least integer printed, and a ring that wraps. Assumes nothing.
+-- Computed cases of the device beyond the one list (one_table): what Get takes, the least integer printed, what Put writes, and the refusals of
+-- the channel. Assumes nothing.
 use mathlib.Core.Path.{_≡_, refl}
 use mathlib.Core.List.{List, [], _∷_}
 use Prim.Native.Nat.{_^_}
@@ -15,12 +16,11 @@ use Rattle.testing_device.specs.Device.{leading, decimalFrom, intFrom, g
 use Rattle.testing_device.specs.Room.{Left, left, placed, putIn}
 use Rattle.testing_device.specs.Channel.{Held, held, peekOf, pokeIn}
 
--- "Input 32, 305, 65, int: 1, with 65 left"; 11 is no space; no digit gives 0 with the spaces taken; 2 ^ 64 + 4 wraps
+-- a char whole, and none; 11 is no space; no digit gives 0 with the spaces taken; 2 ^ 64 + 4 wraps
 unfoldable pub gets : List Got
 gets =
-    getOf Int (32 ∷ 305 ∷ 65 ∷ []) 0
-    ∷ getOf Char (32 ∷ 305 ∷ 65 ∷ []) 2
-    ∷ getOf Char (32 ∷ 305 ∷ 65 ∷ []) 3
+    getOf Char (305 ∷ []) 0
+    ∷ getOf Char (305 ∷ []) 1
     ∷ getOf Int (11 ∷ 49 ∷ []) 0
     ∷ getOf Int (288 ∷ 9 ∷ 45 ∷ 49 ∷ []) 0
     ∷ getOf Int [] 7
@@ -28,7 +28,7 @@ gets =
     ∷ getOf Other (49 ∷ []) 0
     ∷ []
 
-pub got : gets ≡ Value 1 2 ∷ Value 65 3 ∷ Empty ∷ Value 0 0 ∷ Value 0 2 ∷ Value 0 7 ∷ Value 4 20 ∷ Value 0 0 ∷ []
+pub got : gets ≡ Value 305 1 ∷ Empty ∷ Value 0 0 ∷ Value 0 2 ∷ Value 0 7 ∷ Value 4 20 ∷ Value 0 0 ∷ []
 unfolding gets getOf intFrom leading decimalFrom
 got = refl
 
@@ -49,11 +49,6 @@ puts =
 pub put : puts ≡ left (Written 3) (7 ∷ 45 ∷ 49 ∷ []) ∷ left NoRoom (7 ∷ 8 ∷ 9 ∷ []) ∷ left (Written 3) (49 ∷ 50 ∷ 48 ∷ []) ∷ left (Written 5) [] ∷ []
 unfolding puts putOf written decimal putIn placed
 put = refl
-
--- a ring of 256 places whose first is 255
-pub wraps : ring (lib.ListN.set (replicate 256 3) 255 4) 255 3 ≡ 4 ∷ 3 ∷ 3 ∷ []
-unfolding ring
-wraps = refl
 
 unfoldable pub peeks : List Peeked
 peeks = peekOf (replicate 256 3) 255 2 ∷ peekOf (replicate 256 3) 0 0 ∷ peekOf (replicate 255 3) 0 0 ∷ peekOf (replicate 256 3) 256 0 ∷ peekOf (replicate 256 3) 0 257 ∷ []

@@ -2,7 +2,8 @@
 use mathlib.Core.Path.{refl}
 use native.Mathlib.Omega.{arith}
 use Rattle.ops.specs.Patch.{kindIn, countIn, placeIn}
-use Rattle.joining.proofs.Files.{all-below, array-long, bad-file, no-room, few, holds, entries-within, file-fits, all-joined}
+use Rattle.ops.proofs.Loaded.{few}
+use Rattle.joining.proofs.Files.{all-below, array-long, bad-file, no-room, holds, entries-within, file-fits, all-joined}
 use borrow.Author.Needs.{needs}
 use Rattle.joining.proofs.join.join.Statement.{statement}
 use Rattle.joining.proofs.join.join.Tie as tie

@@ -1,7 +1,9 @@
 -- `check::check` meets its contract. Assumes nothing.
 use mathlib.Core.Path.{_∙_, sym}
 use borrow.Author.Needs.{needs}
-use Rattle.patch_check.proofs.Loaded.{bad-file, kinds-fit, counts-fit, kinds-length, counts-length, few, good-file}
+use Rattle.ops.specs.Patch.{kindIn, countIn}
+use Rattle.ops.proofs.Loaded.{part-length, part-fits, part-few}
+use Rattle.patch_check.proofs.Loaded.{bad-file, good-file}
 use Rattle.patch_check.proofs.check.check.Statement.{statement}
 use Rattle.patch_check.proofs.check.check.Tie as tie
 
@@ -11,9 +13,9 @@ check-spec =
     (tie.spec
     (λ c κs. search needs)
     (λ c. bad-file _ _ (c .before .load .ensures .0) (c .if1 .taken))
-    (λ c. kinds-fit _ _ _ _ _ _ (c .before .load .ensures .0) (c .before .load .ensures .1 .0) (c .before .load .ensures .1 .1 .0) (c .if1 .left))
-    (λ c. sym (kinds-length _ _ _ _ _ _ (c .before .before .load .ensures .0) (c .before .before .load .ensures .1 .0) (c .before .before .load .ensures .1 .1 .0) (c .before .if1 .left)))
-    (λ c. counts-fit _ _ _ _ _ _ (c .before .before .load .ensures .0) (c .before .before .load .ensures .1 .0) (c .before .before .load .ensures .1 .1 .0) (c .before .if1 .left))
-    (λ c. sym (counts-length _ _ _ _ _ _ (c .before .before .before .load .ensures .0) (c .before .before .before .load .ensures .1 .0) (c .before .before .before .load .ensures .1 .1 .0) (c .before .before .if1 .left)))
-    (λ c κs. (few _ _ _ _ _ _ (c .before .before .before .load .ensures .0) (c .before .before .before .load .ensures .1 .0) (c .before .before .before .load .ensures .1 .1 .0) (c .before .before .if1 .left), counts-length _ _ _ _ _ _ (c .before .before .before .load .ensures .0) (c .before .before .before .load .ensures .1 .0) (c .before .before .before .load .ensures .1 .1 .0) (c .before .before .if1 .left) ∙ sym (kinds-length _ _ _ _ _ _ (c .before .before .before .load .ensures .0) (c .before .before .before .load .ensures .1 .0) (c .before .before .before .load .ensures .1 .1 .0) (c .before .before .if1 .left))))
-    (λ c. good-file _ _ _ _ _ _ (c .before .before .before .before .load .ensures .0) (c .before .before .before .before .load .ensures .1 .0) (c .before .before .before .before .load .ensures .1 .1 .0) (c .before .before .before .if1 .left) _ (c .check-ops .ensures)))
+    (λ c. part-fits _ _ (c .before .load .ensures .0) (c .if1 .left) kindIn _ _ (c .before .load .ensures .1 .0))
+    (λ c. part-length _ _ (c .before .before .load .ensures .0) (c .before .if1 .left) kindIn _ _ (c .before .before .load .ensures .1 .0))
+    (λ c. part-fits _ _ (c .before .before .load .ensures .0) (c .before .if1 .left) countIn _ _ (c .before .before .load .ensures .1 .1 .0))
+    (λ c. part-length _ _ (c .before .before .before .load .ensures .0) (c .before .before .if1 .left) countIn _ _ (c .before .before .before .load .ensures .1 .1 .0))
+    (λ c κs. (part-few _ _ (c .before .before .before .load .ensures .0) (c .before .before .if1 .left) kindIn _ _ (c .before .before .before .load .ensures .1 .0), sym (part-length _ _ (c .before .before .before .load .ensures .0) (c .before .before .if1 .left) countIn _ _ (c .before .before .before .load .ensures .1 .1 .0)) ∙ part-length _ _ (c .before .before .before .load .ensures .0) (c .before .before .if1 .left) kindIn _ _ (c .before .before .before .load .ensures .1 .0)))
+    (λ c. good-file _ _ (c .before .before .before .before .load .ensures .0) _ _ _ _ (c .before .before .before .before .load .ensures .1 .0) (c .before .before .before .before .load .ensures .1 .1 .0) (c .before .before .before .if1 .left) _ (c .check-ops .ensures)))

@@ -1,4 +1,4 @@
--- The ops of a file are within its limits. Assumes nothing.
+-- The ops of a file are within its limits: what is read can be written. Assumes nothing.
 use mathlib.Core.Path.{_≡_, refl, ap, sym, subst, _∙_}
 use Prim.Native.Nat.{ℕ, zero, suc, _+_, _^_, _<_, _≤_}
 use native.Mathlib.Omega.{arith}
@@ -7,28 +7,32 @@ use mathlib.Core.List.{List, [], _∷_, map}
 use lib.Dec.{eqb, ltb}
 use lib.ListN.{length, getD, take, drop, length-map}
 use borrow.Author.Tests.{leb-true, eqb-true, ltb-false}
 use Rattle.ops.specs.Bytes.{u16At, u32At, u64At, valuesAt, textAt}
 use Rattle.ops.specs.Kinds.{shape}
 use Rattle.ops.specs.Record.{lengthOk, countOf}
 use Rattle.ops.specs.Refusals.{numberOf}
 use Rattle.ops.specs.Patch.{Item, Loaded, stop, walk, patchOf, markOf}
 use Rattle.ops.specs.Ops.{rowAt, opWith, opAt, opsOf}
 use Rattle.ops.specs.Ops.Patch.{ops, refused}
 use Rattle.ops.specs.Op.{Op, Plain}
 use Rattle.ops.specs.Op.Plain.{comment, store, move, swap, locate, offset, deref, refer, cell, lane, get, put, peek, poke, alloc, free}
 use Rattle.ops.specs.Op.Op.{control, set, load, plain}
 use Rattle.ops.specs.Write.{encodeAll, Below, Fits, EachFits, markIn, marksIn, AllFit}
 use Rattle.ops.specs.declared.refusals.Refusal.the-variants.{FileTooLong}
 use Rattle.ops.proofs.Encoded.{known}
 use Rattle.ops.proofs.Items as items
 use Rattle.ops.proofs.Items.{IsItem, Every, items-are, few-items, few-marks}
 use Rattle.ops.proofs.Meaning.{means}
 use Rattle.ops.proofs.Rewritten.{bytes-back}
 use Rattle.ops.proofs.Rows.{rule, row-rule}
 use Rattle.ops.proofs.TextAt.{length-text}
 use Rattle.ops.proofs.ValuesAt.{length-values}
 use Rattle.ops.proofs.Whole.{tells}
-use Rattle.joining.proofs.Pushes.{clash}
+use Rattle.ops.proofs.Clash.{clash}
+
+pub below-all : (s : List ℕ) → ((i : ℕ) → getD s i 0 < 256) → Below 256 s
+below-all [] h = tt
+below-all (x ∷ s) h = (h 0, below-all s (λ i. h (suc i)))
 
 below-at : (s : List ℕ) (i : ℕ) → Below 256 s → getD s i 0 < 256
 below-at [] i w = omega arith
@@ -125,12 +129,17 @@ unfolding numberOf
 not-long true l z = absurd (omega arith)
 not-long false l z = refl
 
+-- "file 65,536 bytes"
+pub short : (s : List ℕ) → patchOf s .number ≡ 0 → length s ≤ 65536
+unfolding patchOf
+short s z = ltb-false 65536 (length s) (not-long (ltb 65536 (length s)) (walk s 4096 0 0) z)
+
 -- the ops of a file are within a file's limits
 pub file-fit : (s : List ℕ) → Below 256 s → (os : List Op) → opsOf s ≡ ops os → AllFit os
-unfolding opsOf patchOf
+unfolding opsOf
 file-fit s w os e =
     let g = good s os (eqb (patchOf s .number) 0) (patchOf s) refl e in
-    let l : length s ≤ 65536 = ltb-false 65536 (length s) (not-long (ltb 65536 (length s)) (walk s 4096 0 0) (g .0)) in
+    let l = short s (g .0) in
     let b : length (encodeAll os) ≡ length s = ap length (bytes-back s w os e) in
     let m = length-map (patchOf s .items) (opAt s) in
     let n = items-marks s w (patchOf s .items) (items-are s) in
