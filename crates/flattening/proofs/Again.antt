@@ -28,7 +28,8 @@ use Rattle.ops.proofs.RoundTrip.{ops-back}
 use Rattle.ops.proofs.ValuesAt.{length-values}
 use Rattle.ops.proofs.Whole.{tells}
 use Rattle.machine_model.proofs.Scans.{clash}
-use Rattle.flattening.specs.Flatten.{Body, notes, Numbered, number, body, bodies, gathered, others, laid, flatten}
+use Rattle.flattening.specs.Flatten.{notes, Numbered, number, body, bodies, gathered, others, laid, flatten}
+use Rattle.flattening.specs.declared.answer.Body.{Body}
 use Rattle.flattening.specs.Flatten.Numbered.{stray, numbered}
 use Rattle.flattening.specs.Flatten.Flat.{flat}
 use Rattle.flattening.specs.Flattened.{Outcome, opsIn, flattenOf}
@@ -158,7 +159,7 @@ fits-flat os fs es e f = by (number 0 0 0 [] [] (notes os)) e
 
 -- ---- a patch again
 
-module _ (s : List ℕ) (w : Below 256 s) (z : patchOf s .number ≡ 0) where
+module _ (s : List ℕ) (z : patchOf s .number ≡ 0) where
   ops-here : opsIn s ≡ map (opAt s) (patchOf s .items)
   ops-here = let e : ops (opsIn s) ≡ ops (map (opAt s) (patchOf s .items)) = sym (held-is s z) ∙ ops-are s z in cc
 
@@ -166,16 +167,19 @@ module _ (s : List ℕ) (w : Below 256 s) (z : patchOf s .number ≡ 0) where
   marks-kinds [] e = refl
   marks-kinds (i ∷ is) e = omega (arith, marks-kinds is (e .1), sym (known (opAt s i) .3) ∙ ap markOf (means s i (e .0) .row))
 
+  pub few-marks-in : marksIn (opsIn s) ≤ 256
+  few-marks-in = omega (arith, ap marksIn ops-here, marks-kinds (patchOf s .items) (items-are s), few-marks s)
+
+module _ (s : List ℕ) (w : Below 256 s) (z : patchOf s .number ≡ 0) where
   -- the bytes of the flattened ops are read as the flattened ops: a good file's flattening is a good file
   pub patch-again : (fs : List Op) (es : List Body) → flatten (opsIn s) ≡ flat fs es → opsOf (encodeAll fs) ≡ ops fs
   patch-again fs es e =
-      let f : EachFits (opsIn s) = rw ops-here (items-fit s w (patchOf s .items) (items-are s)) in
-      let m : marksIn (opsIn s) ≡ items.marksIn (patchOf s .items) = ap marksIn ops-here ∙ marks-kinds (patchOf s .items) (items-are s) in
-      let l : length (opsIn s) ≤ 4096 = rw ops-here (omega (arith, length-map (patchOf s .items) (opAt s), few-items s)) in
+      let f : EachFits (opsIn s) = rw (ops-here s z) (items-fit s w (patchOf s .items) (items-are s)) in
+      let l : length (opsIn s) ≤ 4096 = rw (ops-here s z) (omega (arith, length-map (patchOf s .items) (opAt s), few-items s)) in
       ops-back fs (record {
         each = fits-flat (opsIn s) fs es e f;
         ops = omega (arith, same-ops (opsIn s) fs es e, l);
-        marks = omega (arith, same-marks (opsIn s) fs es e, m, few-marks s);
+        marks = omega (arith, same-marks (opsIn s) fs es e, few-marks-in s z);
         bytes = omega (arith, same-bytes (opsIn s) fs es e, ap length (file-bytes s z w), short s z);
       })
 
@@ -189,7 +193,7 @@ module _ (s : List ℕ) (w : Below 256 s) (z : patchOf s .number ≡ 0) where
 abbrev Says : List Op → List ℕ → List Op → List ℕ → List Body → Type 0
 Says fs cs os [] es = Unit {0}
 Says fs cs os (b ∷ bs) [] = ⊥
-Says fs cs os (b ∷ bs) (e ∷ es) = (e .named-by ≡ b - 1) × ((take (e .count) (drop (e .first) fs) ≡ body b cs os) × Says fs cs os bs es)
+Says fs cs os (b ∷ bs) (e ∷ es) = (e .number ≡ b - 1) × ((take (e .count) (drop (e .first) fs) ≡ body b cs os) × Says fs cs os bs es)
 
 entries-say : (pre : List Op) (bs cs : List ℕ) (os post fs : List Op) (p : ℕ) → p ≡ length pre → fs ≡ pre ++ (gathered bs cs os ++ post) → Says fs cs os bs (bodies p bs cs os)
 unfolding bodies gathered
