@@ -64,7 +64,10 @@ pub fn bytes_of(r: Flattened) -> usize
     ensures { λ n. ⌜ n ≡ bytesOf r ⌝ }
 {
     match r {
-        Flattened::BadFile { number: _, place: _ } => 0,
+        Flattened::BadFile {
+            number: _,
+            place: _,
+        } => 0,
         Flattened::NoOpenEnd { op: _ } => 0,
         Flattened::NoRoom => 0,
         Flattened::Written {
@@ -79,7 +82,10 @@ pub fn bodies_of(r: Flattened) -> usize
     ensures { λ n. ⌜ n ≡ bodiesOf r ⌝ }
 {
     match r {
-        Flattened::BadFile { number: _, place: _ } => 0,
+        Flattened::BadFile {
+            number: _,
+            place: _,
+        } => 0,
         Flattened::NoOpenEnd { op: _ } => 0,
         Flattened::NoRoom => 0,
         Flattened::Written {

@@ -31,7 +31,11 @@ pub fn report_of(answer: Flattened) -> Report
 
 // By hand: `flatten`, with a report as its answer.
 #[no_mangle]
-pub extern "C" fn feltcairn_flatten<'p, 'o, 'a>(bytes: &'p [u8], out: &'o mut [u8], bodies: &'a mut [Body]) -> Report
+pub extern "C" fn feltcairn_flatten<'p, 'o, 'a>(
+    bytes: &'p [u8],
+    out: &'o mut [u8],
+    bodies: &'a mut [Body],
+) -> Report
     ensures { λ r. ⌜ (r ≡ reportOf (flattenTo (now (bytes .entry)) (now (out .entry)) (now (bodies .entry)) .answer))
         × ((now (out .exit) ≡ flattenTo (now (bytes .entry)) (now (out .entry)) (now (bodies .entry)) .out)
         × (now (bodies .exit) ≡ flattenTo (now (bytes .entry)) (now (out .entry)) (now (bodies .entry)) .bodies)) ⌝ }

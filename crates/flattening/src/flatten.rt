@@ -30,8 +30,7 @@ pub fn room_of(n: usize) -> usize
 
 // The work: a list has room for this many entries.
 pub fn flatten_columns(bytes: &[u8], out: &mut [u8], room: usize) -> Columns
-    ensures { λ r. ⌜ outcome (r .answer) (now (out .exit)) (take (roomOf room) (r .numbers)) (take (roomOf room) (r .firsts)) (take (roomOf room) (r .counts)) ≡ flattenOf (now (bytes .entry)) (now (out .entry)) (replicate (roomOf room) 0) (replicate (roomOf room) 0) (replicate (roomOf room) 0) ⌝ }
-    ensures { λ r. ⌜ r .rows ≡ bodiesOf (r .answer) ⌝ }
+    ensures { λ r. ⌜ (outcome (r .answer) (now (out .exit)) (take (roomOf room) (r .numbers)) (take (roomOf room) (r .firsts)) (take (roomOf room) (r .counts)) ≡ flattenOf (now (bytes .entry)) (now (out .entry)) (replicate (roomOf room) 0) (replicate (roomOf room) 0) (replicate (roomOf room) 0)) × (r .rows ≡ bodiesOf (r .answer)) ⌝ }
 {
     let mut numbers = [0u32; 256];
     let mut firsts = [0u32; 256];

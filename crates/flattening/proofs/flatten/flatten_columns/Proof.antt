@@ -20,11 +20,11 @@ flatten-columns-spec =
     (λ c. search needs)
     (λ c. (
       columns-are _ _ _ _ _ _ _ _ _
-      (c .before .before .before .before .before .before .before .before .before .before .before .room-of .ensures .0)
-      (c .before .before .before .before .before .before .before .before .before .before .before .room-of .ensures .1)
-      (c .before .before .before .numbers2 .given)
-      (c .before .before .firsts2 .given)
-      (c .before .counts2 .given)
-      (c .before .before .before .before .before .before .flatten-numbers .ensures),
+          (c .before .before .before .before .before .before .before .before .before .before .before .room-of .ensures .0)
+          (c .before .before .before .before .before .before .before .before .before .before .before .room-of .ensures .1)
+          (c .before .before .before .numbers2 .given)
+          (c .before .before .firsts2 .given)
+          (c .before .counts2 .given)
+          (c .before .before .before .before .before .before .flatten-numbers .ensures),
       c .bodies-of .ensures,
     )))
