@@ -8,18 +8,18 @@ use mathlib.Core.Path.{_≡_, refl, ap, sym, _∙_, subst}
 use mathlib.Core.Bool.{Bool, true, false, cond, _||_}
 use mathlib.Core.List.{List, [], _∷_, _++_, map, append-assoc}
 use lib.Dec.{eqb, ltb}
-use lib.ListN.{length, getD, set, take, drop, replicate, length-append, length-drop, length-map, length-replicate, take-append-drop}
-use lib.Seq.{append-snoc, drop-cons, set-at, take-at}
+use lib.ListN.{length, getD, set, take, drop, replicate, length-append, length-map, length-replicate, take-append-drop}
+use lib.Seq.{append-snoc, drop-cons, set-at, take-at, drop-at, take-append-seam}
 use Rattle.ops.specs.Op.{Op}
 use Rattle.ops.specs.Storage.{fill}
 use Rattle.ops.specs.Ops.{Patch, opsOf}
-use Rattle.ops.specs.Ops.Patch.{ops, refused}
+use Rattle.ops.specs.Ops.Patch.{ops}
 use Rattle.ops.specs.Patch.{patchOf}
-use Rattle.ops.specs.Write.{encodeAll, marksIn}
+use Rattle.ops.specs.Write.{Below, encodeAll, marksIn}
 use Rattle.ops.proofs.Meaning.{refused-are}
 use Rattle.machine_model.proofs.Outcomes.{or-right}
 use Rattle.machine_model.proofs.Scans.{clash}
-use Rattle.flattening.specs.Flatten.{notes, Numbered, number, body, bodies, gathered, others, laid, flatten, Flat}
+use Rattle.flattening.specs.Flatten.{notes, Numbered, number, bodies, others, laid, flatten, Flat}
 use Rattle.flattening.specs.Flatten.Numbered.{stray, numbered}
 use Rattle.flattening.specs.Flatten.Flat.{loose, flat}
 use Rattle.flattening.specs.Flattened.{Outcome, outcome, bodiesOf, opsIn, numberIn, firstIn, countIn, written, untouched, tooShort, ofFlat, ofPatch, flattenOf}
@@ -30,7 +30,7 @@ use Rattle.flattening.specs.declared.answer.Flattened.the-variants.{BadF
 use Rattle.flattening.specs.declared.flatten.Columns.{Columns}
 use Rattle.flattening.proofs.FewBodies.{few-bodies, length-bodies}
 use Rattle.flattening.proofs.Copying.{held-is}
-use Rattle.flattening.proofs.Again.{few-marks-in}
+use Rattle.flattening.proofs.Again.{few-marks-in, patch-again, Says, bodies-say}
 
 -- ---- the columns: what `flatten_columns` lends of its arrays
 
@@ -239,3 +239,69 @@ module _ (s o o′ : List ℕ) (l : List Body) (c : Columns) (er : c .rows ≡ b
           let h = refused-are s (eqb-false (patchOf s .number) 0 q) in
           subst (λ (p : Patch). Makes (toList (λ ns fs cs. ofPatch s o ns fs cs p))) (sym h)
           (nothing-written (BadFile (patchOf s .number) (patchOf s .place)) refl (e ∙ ap (λ (p : Patch). toZeros (λ ns fs cs. ofPatch s o ns fs cs p)) h))
+
+-- ---- laws of the list
+
+-- two answers that meet the contract of `flatten` coincide, with every byte and every entry that they leave
+pub same-listing : (s o : List ℕ) (l : List Body) (x y : Listing) → x ≡ flattenTo s o l → y ≡ flattenTo s o l → x ≡ y
+same-listing s o l x y e f = e ∙ sym f
+
+-- what is left where k entries were written: the bytes are read as ops fs, each entry's ops in fs are its body, and the entries beyond are as they were
+pub record Told (s : List ℕ) (l : List Body) (b k : ℕ) (r : Listing) : Type 0 where
+  pub fs : List Op
+  pub cs : List ℕ
+  pub seen : List ℕ
+  pub by : number 0 0 0 [] [] (notes (opsIn s)) ≡ numbered cs seen
+  pub read : opsOf (take b (r .out)) ≡ ops fs
+  pub each : (length (others seen) ≡ k) × Says fs cs (opsIn s) (others seen) (take k (r .bodies))
+  pub beyond : drop k (r .bodies) ≡ drop k l
+
+module _ (s o : List ℕ) (l : List Body) (w : Below 256 s) where
+  abbrev onList : (List ℕ → List ℕ → List ℕ → Outcome) → Listing
+  onList f = inList (f (map numberIn l) (map firstIn l) (map countIn l))
+
+  written-told : patchOf s .number ≡ 0 → (gs : List Op) (bs : List Body) → flatten (opsIn s) ≡ flat gs bs → Told s l (length (encodeAll gs)) (length bs) (onList (λ ns fs cs. written s o ns fs cs gs bs))
+  unfolding fill over
+  written-told z gs bs q =
+      let t = bodies-say (opsIn s) gs bs q in
+      let e = beside-fill bs l in
+      record {
+        fs = gs;
+        cs = t .0;
+        seen = t .1 .0;
+        by = t .1 .1 .0;
+        read = ap opsOf (take-append-seam (encodeAll gs) (drop (length (encodeAll gs)) o)) ∙ patch-again s w z gs bs q;
+        each = (sym (t .1 .1 .1 .0), rw (e, take-append-seam bs (drop (length bs) l)) (t .1 .1 .1 .1));
+        beyond = ap (drop (length bs)) e ∙ drop-at bs (drop (length bs) l) (length bs) refl;
+      }
+
+  -- each entry's ops are the body that the entry says
+  pub list-told : (n b k : ℕ) → flattenTo s o l .answer ≡ Written n b k → Told s l b k (flattenTo s o l)
+  unfolding flattenOf flattenTo
+  list-told n b k a = by (eqb (patchOf s .number) 0) refl
+    where
+      room : (z : patchOf s .number ≡ 0) (gs : List Op) (bs : List Body) → flatten (opsIn s) ≡ flat gs bs → (t : Bool)
+          → onList (λ ns fs cs. cond t (untouched s o ns fs cs NoRoom) (written s o ns fs cs gs bs)) .answer ≡ Written n b k
+          → Told s l b k (onList (λ ns fs cs. cond t (untouched s o ns fs cs NoRoom) (written s o ns fs cs gs bs)))
+      room z gs bs q true x = clash (cc)
+      room z gs bs q false x =
+          let eb : length (encodeAll gs) ≡ b = cc in
+          let ek : length bs ≡ k = cc in
+          subst (λ (i : ℕ). Told s l i k (onList (λ ns fs cs. written s o ns fs cs gs bs))) eb
+          (subst (λ (i : ℕ). Told s l (length (encodeAll gs)) i (onList (λ ns fs cs. written s o ns fs cs gs bs))) ek (written-told z gs bs q))
+
+      flats : (z : patchOf s .number ≡ 0) (f : Flat) → flatten (opsIn s) ≡ f → onList (λ ns fs cs. ofFlat s o ns fs cs (marksIn (opsIn s)) f) .answer ≡ Written n b k
+          → Told s l b k (onList (λ ns fs cs. ofFlat s o ns fs cs (marksIn (opsIn s)) f))
+      flats z (loose p) q x = clash (cc)
+      flats z (flat gs bs) q x = room z gs bs q (tooShort s o (map numberIn l) (map firstIn l) (map countIn l) (marksIn (opsIn s))) x
+
+      by : (t : Bool) → eqb (patchOf s .number) 0 ≡ t → Told s l b k (onList (flattenOf s o))
+      by true q =
+          let z : patchOf s .number ≡ 0 = eqb-true (patchOf s .number) 0 q in
+          let h = held-is s z in
+          subst (λ (p : Patch). Told s l b k (onList (λ ns fs cs. ofPatch s o ns fs cs p))) (sym h)
+          (flats z (flatten (opsIn s)) refl (ap (λ (p : Patch). onList (λ ns fs cs. ofPatch s o ns fs cs p) .answer) (sym h) ∙ a))
+      by false q =
+          let h = refused-are s (eqb-false (patchOf s .number) 0 q) in
+          let x : BadFile (patchOf s .number) (patchOf s .place) ≡ Written n b k = ap (λ (p : Patch). onList (λ ns fs cs. ofPatch s o ns fs cs p) .answer) (sym h) ∙ a in
+          clash (cc)
