@@ -187,7 +187,7 @@ fn show_flatten(head: &[u8; 16], file: &[u8]) {
     let mut firsts = [0u32; 64];
     let mut counts = [0u32; 64];
     let room = of_bytes(u16_at(head, 8), &out);
-    let r = flattening::flatten::flatten(
+    let r = flattening::numbers::flatten_numbers(
         file,
         &mut out[..room],
         &mut numbers,

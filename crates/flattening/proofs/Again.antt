@@ -16,7 +16,8 @@ use Rattle.ops.specs.Write.{encodeAll, Below, EachFits}
 use Rattle.ops.proofs.Fitting.{file-fit}
 use Rattle.ops.proofs.RoundTrip.{ops-back}
 use Rattle.machine_model.proofs.Scans.{clash}
-use Rattle.flattening.specs.Flatten.{Body, notes, Numbered, number, body, bodies, gathered, others, laid, flatten}
+use Rattle.flattening.specs.Flatten.{notes, Numbered, number, body, bodies, gathered, others, laid, flatten}
+use Rattle.flattening.specs.declared.answer.Body.{Body}
 use Rattle.flattening.specs.Flatten.Numbered.{stray, numbered}
 use Rattle.flattening.specs.Flatten.Flat.{flat}
 use Rattle.flattening.specs.Flattened.{Outcome, opsIn, flattenOf}
@@ -76,10 +77,10 @@ module _ (s : List ℕ) (w : Below 256 s) (z : patchOf s .number ≡ 0) where
 -- ---- the entries
 
 -- each entry has the number of its body, and the ops from its first on, as many as it counts, are the body's
-abbrev Says : List Op → List ℕ → List Op → List ℕ → List Body → Type 0
+abbrev pub Says : List Op → List ℕ → List Op → List ℕ → List Body → Type 0
 Says fs cs os [] es = Unit {0}
 Says fs cs os (b ∷ bs) [] = ⊥
-Says fs cs os (b ∷ bs) (e ∷ es) = (e .named-by ≡ b - 1) × ((take (e .count) (drop (e .first) fs) ≡ body b cs os) × Says fs cs os bs es)
+Says fs cs os (b ∷ bs) (e ∷ es) = (e .number ≡ b - 1) × ((take (e .count) (drop (e .first) fs) ≡ body b cs os) × Says fs cs os bs es)
 
 entries-say : (pre : List Op) (bs cs : List ℕ) (os post fs : List Op) (p : ℕ) → p ≡ length pre → fs ≡ pre ++ (gathered bs cs os ++ post) → Says fs cs os bs (bodies p bs cs os)
 unfolding bodies gathered
@@ -97,22 +98,27 @@ entries-say pre (b ∷ bs) cs os post fs p e q =
       ),
     )
 
--- each body is the ops its entry says: bs are the bodies, and cs the bodies of the ops
-pub bodies-say : (os fs : List Op) (es : List Body) → flatten os ≡ flat fs es → (bs : List ℕ) × ((cs : List ℕ) × ((length es ≡ length bs) × Says fs cs os bs es))
+-- each body is the ops its entry says: cs are the bodies of the ops, and seen the bodies, by the numbering
+pub bodies-say : (os fs : List Op) (es : List Body) → flatten os ≡ flat fs es
+    → (cs : List ℕ) × ((seen : List ℕ) × ((number 0 0 0 [] [] (notes os) ≡ numbered cs seen) × ((length es ≡ length (others seen)) × Says fs cs os (others seen) es)))
 unfolding flatten
-bodies-say os fs es e = by (number 0 0 0 [] [] (notes os)) e
+bodies-say os fs es e = by (number 0 0 0 [] [] (notes os)) refl e
   where
-    by : (r : Numbered) → laid os r ≡ flat fs es → (bs : List ℕ) × ((cs : List ℕ) × ((length es ≡ length bs) × Says fs cs os bs es))
-    by (stray p) x = clash (cc)
-    by (numbered cs seen) x =
+    by : (r : Numbered) → number 0 0 0 [] [] (notes os) ≡ r → laid os r ≡ flat fs es
+        → (cs : List ℕ) × ((seen : List ℕ) × ((number 0 0 0 [] [] (notes os) ≡ numbered cs seen) × ((length es ≡ length (others seen)) × Says fs cs os (others seen) es)))
+    by (stray p) n x = clash (cc)
+    by (numbered cs seen) n x =
         let q : gathered (others seen) cs os ++ body 0 cs os ≡ fs = cc in
         let t : bodies 0 (others seen) cs os ≡ es = cc in (
-          others seen,
+          cs,
           (
-            cs,
+            seen,
             (
-              ap length (sym t) ∙ length-bodies 0 (others seen) cs os,
-              subst (λ (l : List Body). Says fs cs os (others seen) l) t (entries-say [] (others seen) cs os (body 0 cs os) fs 0 refl (sym q)),
+              n,
+              (
+                ap length (sym t) ∙ length-bodies 0 (others seen) cs os,
+                subst (λ (l : List Body). Says fs cs os (others seen) l) t (entries-say [] (others seen) cs os (body 0 cs os) fs 0 refl (sym q)),
+              ),
             ),
           ),
         )

@@ -14,7 +14,8 @@ use Rattle.machine_model.specs.Formed.{Each, Rising}
 use Rattle.machine_model.proofs.Each.{each-to}
 use Rattle.machine_model.proofs.Scans.{clash}
 use Rattle.machine_model.proofs.Table.{each-enter, rising-enter}
-use Rattle.flattening.specs.Flatten.{Note, note, notes, Numbered, named, has, fresh, number, body, Body, bodies, gathered, others, laid, flatten}
+use Rattle.flattening.specs.Flatten.{Note, note, notes, Numbered, named, has, fresh, number, body, bodies, gathered, others, laid, flatten}
+use Rattle.flattening.specs.declared.answer.Body.{Body}
 use Rattle.flattening.specs.Flatten.Note.{enters, opens, closes, stays}
 use Rattle.flattening.specs.Flatten.Numbered.{stray, numbered}
 use Rattle.flattening.specs.Flatten.Flat.{flat}
@@ -394,7 +395,7 @@ entries-are : (p : ℕ) (bs cs : List ℕ) (os : List Op) → entries p (table b
 unfolding table bodies
 entries-are p [] cs os = refl
 entries-are p (b ∷ bs) cs os =
-    ap (λ (t : List Body). record { named-by = b - 1; first = p; count = length (body b cs os) } ∷ t) (entries-are (p + length (body b cs os)) bs cs os)
+    ap (λ (t : List Body). record { number = b - 1; first = p; count = length (body b cs os) } ∷ t) (entries-are (p + length (body b cs os)) bs cs os)
 
 -- what the Rust returns, with its functions as entries, is what Flatten says of the ops
 pub as-the-rust : (os : List Op) → flatOf (rust os) ≡ flatten os

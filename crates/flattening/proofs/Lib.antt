@@ -6,4 +6,5 @@ pub mod Writing
 pub mod FewBodies
 pub mod File
 pub mod Again
+pub mod Entries
 pub mod AsTheRust

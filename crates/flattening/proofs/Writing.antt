@@ -10,7 +10,8 @@ use Rattle.ops.specs.Op.{Op}
 use Rattle.ops.specs.Storage.{fill}
 use Rattle.ops.specs.Write.{placed, encodeAll}
 use Rattle.ops.proofs.Storage.{placed-then, length-placed, fill-snoc}
-use Rattle.flattening.specs.Flatten.{Body, body, bodies, gathered, others}
+use Rattle.flattening.specs.Flatten.{body, bodies, gathered, others}
+use Rattle.flattening.specs.declared.answer.Body.{Body}
 use Rattle.flattening.specs.Scope.{listed}
 use Rattle.flattening.specs.Flattened.{numberIn, firstIn, countIn}
 use Rattle.flattening.proofs.Flags.{others-listed, listed-over, listed-at}
@@ -169,7 +170,7 @@ module _ (cs : List ℕ) (os : List Op) (seen out₀ ns₀ fs₀ ks₀ out ns fs
         → Writing cs os seen out₀ ns₀ fs₀ ks₀ out′ (set ns n (b - 1)) (set fs n first) (set ks n m) next (first + m) (n + 1) (b + 1)
     unfolding rest bodies
     on hn hf hk m next out′ em ex eo =
-        let e : Body = record { named-by = b - 1; first = first; count = length (body b cs os) } in
+        let e : Body = record { number = b - 1; first = first; count = length (body b cs os) } in
         let i = entry-fits in
         let f = bytes-fit in
         let w : out′ ≡ fill (encodeAll (c .gs ++ body b cs os)) out₀ =

@@ -9,6 +9,7 @@ use Rattle.ops.specs.Op.{Op, Control}
 use Rattle.ops.specs.Op.Control.{function, call, ret, while, if, else, end}
 use Rattle.ops.specs.Op.Op.{control, set, load, plain}
 use Rattle.machine_model.specs.Step.{enter}
+use Rattle.flattening.specs.declared.answer.Body.{Body}
 
 -- what an op is to flattening: a Function mark enters a body, If and While open a bracket in it, End closes one or the body
 pub data Note : Type 0 where
@@ -71,24 +72,18 @@ body b [] os = []
 body b (c ∷ cs) [] = []
 body b (c ∷ cs) (o ∷ os) = cond (eqb b c) (o ∷ body b cs os) (body b cs os)
 
--- "an entry of number, first op and op count in the caller's list"
-pub record Body : Type 0 where
-  pub named-by : ℕ
-  pub first : ℕ
-  pub count : ℕ
-
 -- 10 and its place, or the ops and the entries of the functions' bodies
 pub data Flat : Type 0 where
   loose : ℕ → Flat
   flat : List Op → List Body → Flat
 
--- the entries of the functions' bodies in rising number, the first of them at op p
+-- "an entry of number, first op and op count" for each of the functions' bodies, in rising number, the first of them at op p
 unfoldable pub bodies : ℕ → List ℕ → List ℕ → List Op → List Body
 unfolding body
 bodies p [] cs os = []
 bodies p (b ∷ bs) cs os =
     let n = length (body b cs os) in
-    record { named-by = b - 1; first = p; count = n } ∷ bodies (p + n) bs cs os
+    record { number = b - 1; first = p; count = n } ∷ bodies (p + n) bs cs os
 
 -- the ops of the bodies, one body after another
 unfoldable pub gathered : List ℕ → List ℕ → List Op → List Op

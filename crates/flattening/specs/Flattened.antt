@@ -9,8 +9,9 @@ use Rattle.ops.specs.Ops.{Patch, opsOf}
 use Rattle.ops.specs.Ops.Patch.{ops, refused}
 use Rattle.ops.specs.Storage.{fill}
 use Rattle.ops.specs.Write.{encodeAll, marksIn}
-use Rattle.flattening.specs.Flatten.{Body, Flat, flatten}
+use Rattle.flattening.specs.Flatten.{Flat, flatten}
 use Rattle.flattening.specs.Flatten.Flat.{loose, flat}
+use Rattle.flattening.specs.declared.answer.Body.{Body}
 use Rattle.flattening.specs.declared.answer.Flattened.{Flattened}
 use Rattle.flattening.specs.declared.answer.Flattened.the-variants.{BadFile, NoOpenEnd, NoRoom, Written}
 
@@ -52,7 +53,7 @@ opsIn s = held (opsOf s)
 
 -- "an entry of number, first op and op count"
 abbrev pub numberIn : Body → ℕ
-numberIn b = b .named-by
+numberIn b = b .number
 
 abbrev pub firstIn : Body → ℕ
 firstIn b = b .first

@@ -7,9 +7,10 @@ use mathlib.Core.Option.{Option, none, some}
 use lib.Dec.{eqb, ltb}
 use lib.ListN.{length}
 use Rattle.ops.specs.Op.{Op}
-use Rattle.flattening.specs.Flatten.{Note, note, Body, Flat}
+use Rattle.flattening.specs.Flatten.{Note, note, Flat}
 use Rattle.flattening.specs.Flatten.Note.{enters, opens, closes, stays}
 use Rattle.flattening.specs.Flatten.Flat.{loose, flat}
+use Rattle.flattening.specs.declared.answer.Body.{Body}
 
 -- ---- `functions`, a `HashMap<i32, Vec<StandardOp>>`: a number and its ops, each number once; a map has no order, here the numbers rise
 
@@ -100,7 +101,7 @@ rust os = loop os 0 (scopes 0 0 [] [] [])
 -- "an entry of number, first op and op count" for each of its functions, the first of them at op p
 abbrev pub entries : ℕ → List (ℕ × List Op) → List Body
 entries p [] = []
-entries p (f ∷ fs) = record { named-by = f .0 - 1; first = p; count = length (f .1) } ∷ entries (p + length (f .1)) fs
+entries p (f ∷ fs) = record { number = f .0 - 1; first = p; count = length (f .1) } ∷ entries (p + length (f .1)) fs
 
 -- "An End with no open bracket is 10", or the ops and the entries
 abbrev pub flatOf : Rust → Flat

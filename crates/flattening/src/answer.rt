@@ -1,6 +1,6 @@
 // What flattening answers.
 ghost use mathlib.Core.Path.{_≡_};
-ghost use Rattle.flattening.specs.Flattened.{numberOf, placeOf};
+ghost use Rattle.flattening.specs.Flattened.{numberOf, placeOf, bytesOf, bodiesOf};
 
 // The refusal of a bad file, its number and its byte; an End with no open bracket, its op; lent room too short; or what was written: ops,
 // bytes, and entries of function bodies.
@@ -18,6 +18,14 @@ pub enum Flattened {
         bytes: usize,
         bodies: usize,
     },
+}
+
+// An entry of the caller's list: a function's body, by its number, its first op and its op count.
+#[repr(C)]
+pub struct Body {
+    pub number: u32,
+    pub first: u32,
+    pub count: u32,
 }
 
 // The number that is given back, and the place that goes with it.
@@ -48,5 +56,42 @@ pub fn place_of(r: Flattened) -> usize
             bytes: _,
             bodies: _,
         } => ops,
+    }
+}
+
+// The bytes and the entries that were written; none where nothing was.
+pub fn bytes_of(r: Flattened) -> usize
+    ensures { λ n. ⌜ n ≡ bytesOf r ⌝ }
+{
+    match r {
+        Flattened::BadFile {
+            number: _,
+            place: _,
+        } => 0,
+        Flattened::NoOpenEnd { op: _ } => 0,
+        Flattened::NoRoom => 0,
+        Flattened::Written {
+            ops: _,
+            bytes,
+            bodies: _,
+        } => bytes,
+    }
+}
+
+pub fn bodies_of(r: Flattened) -> usize
+    ensures { λ n. ⌜ n ≡ bodiesOf r ⌝ }
+{
+    match r {
+        Flattened::BadFile {
+            number: _,
+            place: _,
+        } => 0,
+        Flattened::NoOpenEnd { op: _ } => 0,
+        Flattened::NoRoom => 0,
+        Flattened::Written {
+            ops: _,
+            bytes: _,
+            bodies,
+        } => bodies,
     }
 }

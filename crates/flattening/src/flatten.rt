@@ -1,72 +1,100 @@
-// A whole file: read, numbered, and written body by body where it has room.
+// A whole file, with the entries of the bodies in the caller's list. The work is done by value, in columns; what goes to the list is proved by hand.
 ghost use mathlib.Core.Path.{_≡_};
-ghost use Rattle.flattening.specs.Scope.{rowMarks};
-ghost use Rattle.flattening.specs.Flattened.{outcome, flattenOf};
+ghost use Prim.Native.Nat.{_<_, _≤_};
+ghost use lib.ListN.{length, take, replicate};
+ghost use Rattle.flattening.specs.Flattened.{bodiesOf, outcome, flattenOf};
+ghost use Rattle.flattening.specs.Entries.{listing, flattenTo, roomOf, entryAt, entriesIn, over};
+use crate::answer::Body;
 use crate::answer::Flattened;
-use crate::bodies::write_bodies;
-use crate::numbering::Numbering;
-use crate::numbering::number_ops;
-use ops::bytes::wide;
-use ops::reader::load;
-use ops::reader::mark_of;
+use crate::answer::bodies_of;
+use crate::numbers::flatten_numbers;
 
-// How many Function marks there are among ops of these rows.
-pub fn count_marks(kinds: &[u8]) -> usize
-    ensures { λ r. ⌜ r ≡ rowMarks (now (kinds .entry)) ⌝ }
-{
-    let mut marks: usize = 0;
-    let mut i: usize = 0;
-    while i < kinds.len() {
-        marks += mark_of(wide(kinds[i]));
-        i += 1;
-    }
-    marks
+// The answer, how many entries there are, and their numbers, first ops and op counts.
+pub struct Columns {
+    pub numbers: [u32; 256],
+    pub firsts: [u32; 256],
+    pub counts: [u32; 256],
+    pub rows: usize,
+    pub answer: Flattened,
 }
 
-// Flattens a patch: each function's own ops, then main. An entry of each function's body goes to the three lists: its number, its first op
-// and its op count.
-pub fn flatten(
-    bytes: &[u8],
-    out: &mut [u8],
-    numbers: &mut [u32],
-    firsts: &mut [u32],
-    counts: &mut [u32],
-) -> Flattened
-    ensures { λ r. ⌜ outcome r (now (out .exit)) (now (numbers .exit)) (now (firsts .exit)) (now (counts .exit)) ≡ flattenOf (now (bytes .entry)) (now (out .entry)) (now (numbers .entry)) (now (firsts .entry)) (now (counts .entry)) ⌝ }
+// The room that counts: a patch has at most 256 marks.
+pub fn room_of(n: usize) -> usize
+    ensures { λ r. ⌜ (r ≡ roomOf n) × (r ≤ 256) ⌝ }
 {
-    let mut kinds = [0u8; 4096];
-    let mut lanes = [0u16; 4096];
-    let mut needs = [0u16; 4096];
-    let mut places = [0u32; 4096];
-    let read = load(bytes, &mut kinds, &mut lanes, &mut needs, &mut places);
-    let number = read.number;
-    let place = read.place;
-    if number != 0 {
-        return Flattened::BadFile { number, place };
+    if n < 256 {
+        return n;
     }
-    let mut owner = [0u16; 4096];
-    let mut seen = [0u8; 4097];
-    let numbering = number_ops(&kinds[..place], &mut owner, &mut seen);
-    if let Numbering::NoOpenEnd(op) = numbering {
-        return Flattened::NoOpenEnd { op };
+    256
+}
+
+// The work: a list has room for this many entries.
+pub fn flatten_columns(bytes: &[u8], out: &mut [u8], room: usize) -> Columns
+    ensures { λ r. ⌜ (outcome (r .answer) (now (out .exit)) (take (roomOf room) (r .numbers)) (take (roomOf room) (r .firsts)) (take (roomOf room) (r .counts)) ≡ flattenOf (now (bytes .entry)) (now (out .entry)) (replicate (roomOf room) 0) (replicate (roomOf room) 0) (replicate (roomOf room) 0)) × (r .rows ≡ bodiesOf (r .answer)) ⌝ }
+{
+    let mut numbers = [0u32; 256];
+    let mut firsts = [0u32; 256];
+    let mut counts = [0u32; 256];
+    let n = room_of(room);
+    let answer = flatten_numbers(
+        bytes,
+        out,
+        &mut numbers[..n],
+        &mut firsts[..n],
+        &mut counts[..n],
+    );
+    let rows = bodies_of(answer);
+    Columns {
+        numbers,
+        firsts,
+        counts,
+        rows,
+        answer,
     }
-    if out.len() < bytes.len() {
-        return Flattened::NoRoom;
+}
+
+pub fn body_at(columns: Columns, i: usize) -> Body
+    requires { ⌜ i < 256 ⌝ }
+    ensures { λ r. ⌜ r ≡ entryAt columns i ⌝ }
+{
+    Body {
+        number: columns.numbers[i],
+        first: columns.firsts[i],
+        count: columns.counts[i],
     }
-    let marks = count_marks(&kinds[..place]);
-    if numbers.len() < marks {
-        return Flattened::NoRoom;
+}
+
+pub fn rows_of(columns: Columns) -> usize
+    ensures { λ r. ⌜ r ≡ columns .rows ⌝ }
+{
+    columns.rows
+}
+
+pub fn answer_of(columns: Columns) -> Flattened
+    ensures { λ r. ⌜ r ≡ columns .answer ⌝ }
+{
+    columns.answer
+}
+
+// By hand: the first n entries, to the list.
+pub fn write_entries<'a>(bodies: &'a mut [Body], columns: Columns, n: usize)
+    requires { ⌜ (n ≤ length (now bodies)) × (n ≤ 256) ⌝ }
+    ensures { λ _. ⌜ now (bodies .exit) ≡ over (entriesIn columns n) (now (bodies .entry)) ⌝ }
+{
+    let mut i = 0;
+    while i < n {
+        let b = body_at(columns, i);
+        bodies[i] = b;
+        i = i + 1;
     }
-    if firsts.len() < marks {
-        return Flattened::NoRoom;
-    }
-    if counts.len() < marks {
-        return Flattened::NoRoom;
-    }
-    let bodies = write_bodies(bytes, &owner[..place], &seen, out, numbers, firsts, counts);
-    Flattened::Written {
-        ops: place,
-        bytes: bytes.len(),
-        bodies,
-    }
+}
+
+// By hand: flattens a patch. Each function's own ops, then main, go to `out`, and an entry of each function's body to `bodies`.
+pub fn flatten<'p, 'o, 'a>(bytes: &'p [u8], out: &'o mut [u8], bodies: &'a mut [Body]) -> Flattened
+    ensures { λ r. ⌜ listing r (now (out .exit)) (now (bodies .exit)) ≡ flattenTo (now (bytes .entry)) (now (out .entry)) (now (bodies .entry)) ⌝ }
+{
+    let columns = flatten_columns(bytes, out, bodies.len());
+    let n = rows_of(columns);
+    write_entries(bodies, columns, n);
+    answer_of(columns)
 }

@@ -2,4 +2,6 @@
 pub mod answer; // what flattening answers
 pub mod numbering; // the body that each op is in
 pub mod bodies; // the records of the bodies, one body after another
-pub mod flatten; // a whole file
+pub mod numbers; // a whole file, with the entries of the bodies in three lists of numbers
+pub mod flatten; // a whole file, with the entries in the caller's list
+pub mod export; // the same for callers in C and Rust

@@ -22,8 +22,9 @@ use Rattle.patch_check.specs.Check.{check}
 use Rattle.patch_check.specs.Verdict.{numberOf, placeOf}
 use Rattle.patch_check.specs.declared.verdict.Verdict.{Verdict}
 use Rattle.joining.specs.Join.{join}
-use Rattle.flattening.specs.Flatten.{flatten, Flat, Body}
+use Rattle.flattening.specs.Flatten.{flatten, Flat}
 use Rattle.flattening.specs.Flatten.Flat.{loose, flat}
+use Rattle.flattening.specs.declared.answer.Body.{Body}
 
 -- a patch and its input, checked and run as the runner does; a patch joined; a patch flattened; a run over a tape, a room and a budget of its
 -- own; values sent to an empty ring that starts at a place, and taken again
@@ -50,7 +51,7 @@ show-ops (o ∷ os) = kindOf o ∷ argOf o ∷ valuesOf o ++ show-ops os
 -- each body's number, first op and op count
 show-bodies : List Body → List ℕ
 show-bodies [] = []
-show-bodies (b ∷ bs) = b .named-by ∷ b .first ∷ b .count ∷ show-bodies bs
+show-bodies (b ∷ bs) = b .number ∷ b .first ∷ b .count ∷ show-bodies bs
 
 show-flat : Flat → List ℕ
 unfolding show-ops show-bodies

@@ -110,6 +110,7 @@ module _ (s : List ℕ) (w : Below 256 s) where
   items-fit [] e = tt
   items-fit (i ∷ is) e = (item-fits i (e .0), items-fit is (e .1))
 
+module _ (s : List ℕ) where
   item-mark : (i : Item) → IsItem s i → markIn (opAt s i) ≡ markOf (i .kind)
   item-mark i h = sym (known (opAt s i) .3) ∙ ap markOf (means s i h .row)
 
@@ -134,6 +135,13 @@ pub short : (s : List ℕ) → patchOf s .number ≡ 0 → length s ≤ 65536
 unfolding patchOf
 short s z = ltb-false 65536 (length s) (not-long (ltb 65536 (length s)) (walk s 4096 0 0) z)
 
+-- "256 Function marks"
+pub few-marks-in : (s : List ℕ) (os : List Op) → opsOf s ≡ ops os → marksIn os ≤ 256
+unfolding opsOf
+few-marks-in s os e =
+    let g = good s os (eqb (patchOf s .number) 0) (patchOf s) refl e in
+    omega (arith, ap marksIn (g .1), items-marks s (patchOf s .items) (items-are s), few-marks s)
+
 -- the ops of a file are within a file's limits
 pub file-fit : (s : List ℕ) → Below 256 s → (os : List Op) → opsOf s ≡ ops os → AllFit os
 unfolding opsOf
@@ -142,10 +150,9 @@ file-fit s w os e =
     let l = short s (g .0) in
     let b : length (encodeAll os) ≡ length s = ap length (bytes-back s w os e) in
     let m = length-map (patchOf s .items) (opAt s) in
-    let n = items-marks s w (patchOf s .items) (items-are s) in
     record {
       each = subst (λ (x : List Op). EachFits x) (g .1) (items-fit s w (patchOf s .items) (items-are s));
       ops = omega (arith, ap length (g .1), m, few-items s);
-      marks = omega (arith, ap marksIn (g .1), n, few-marks s);
+      marks = few-marks-in s os e;
       bytes = omega arith;
     }

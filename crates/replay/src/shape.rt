@@ -138,38 +138,6 @@ fn same_lists(
         && same_bodies(tell, b"op count of body", case, after(case, at, 12), counts)
 }
 
-fn bytes_of(r: Flattened) -> usize {
-    match r {
-        Flattened::BadFile {
-            number: _,
-            place: _,
-        } => 0,
-        Flattened::NoOpenEnd { op: _ } => 0,
-        Flattened::NoRoom => 0,
-        Flattened::Written {
-            ops: _,
-            bytes,
-            bodies: _,
-        } => bytes,
-    }
-}
-
-fn bodies_of(r: Flattened) -> usize {
-    match r {
-        Flattened::BadFile {
-            number: _,
-            place: _,
-        } => 0,
-        Flattened::NoOpenEnd { op: _ } => 0,
-        Flattened::NoRoom => 0,
-        Flattened::Written {
-            ops: _,
-            bytes: _,
-            bodies,
-        } => bodies,
-    }
-}
-
 fn same_flat(
     tell: Tell,
     case: &[u8],
@@ -181,8 +149,10 @@ fn same_flat(
 ) -> bool {
     let number = flattening::answer::number_of(r);
     let place = flattening::answer::place_of(r);
-    same_answer(tell, case, 9, number, place, bytes_of(r), out)
-        && same_lists(tell, case, bodies_of(r), numbers, firsts, counts)
+    let bytes = flattening::answer::bytes_of(r);
+    let bodies = flattening::answer::bodies_of(r);
+    same_answer(tell, case, 9, number, place, bytes, out)
+        && same_lists(tell, case, bodies, numbers, firsts, counts)
 }
 
 fn flatten_to(
@@ -194,7 +164,7 @@ fn flatten_to(
     firsts: &mut [u32],
     counts: &mut [u32],
 ) -> Found {
-    let r = flattening::flatten::flatten(file, out, numbers, firsts, counts);
+    let r = flattening::numbers::flatten_numbers(file, out, numbers, firsts, counts);
     found(same_flat(tell, case, r, out, numbers, firsts, counts))
 }
 

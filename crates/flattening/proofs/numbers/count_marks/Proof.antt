@@ -1,4 +1,4 @@
--- `flattening::flatten::count_marks` meets its contract. Assumes nothing.
+-- `flattening::numbers::count_marks` meets its contract. Assumes nothing.
 use Prim.Native.Nat.{_-_, _+_, _≤_}
 use mathlib.Core.Path.{_≡_, _∙_, ap}
 use Rattle.ops.specs.Patch.{markOf}
@@ -7,8 +7,8 @@ use native.Mathlib.Omega.{arith}
 use borrow.Author.Needs.{needs}
 use Rattle.flattening.specs.Scope.{rowMarks}
 use Rattle.flattening.proofs.Turns.{marks-at, marks-end}
-use Rattle.flattening.proofs.flatten.count_marks.Statement.{statement}
-use Rattle.flattening.proofs.flatten.count_marks.Tie as tie
+use Rattle.flattening.proofs.numbers.count_marks.Statement.{statement}
+use Rattle.flattening.proofs.numbers.count_marks.Tie as tie
 
 abbrev Inv-loop : tie.InvT-loop
 Inv-loop kinds marks₀ i₀ marks i = (i ≤ length kinds) × (marks + rowMarks (drop i kinds) ≡ rowMarks kinds) × (marks ≤ i)

@@ -1,0 +1,72 @@
+// A whole file: read, numbered, and written body by body where it has room. The entries of the bodies go to three lists of numbers.
+ghost use mathlib.Core.Path.{_≡_};
+ghost use Rattle.flattening.specs.Scope.{rowMarks};
+ghost use Rattle.flattening.specs.Flattened.{outcome, flattenOf};
+use crate::answer::Flattened;
+use crate::bodies::write_bodies;
+use crate::numbering::Numbering;
+use crate::numbering::number_ops;
+use ops::bytes::wide;
+use ops::reader::load;
+use ops::reader::mark_of;
+
+// How many Function marks there are among ops of these rows.
+pub fn count_marks(kinds: &[u8]) -> usize
+    ensures { λ r. ⌜ r ≡ rowMarks (now (kinds .entry)) ⌝ }
+{
+    let mut marks: usize = 0;
+    let mut i: usize = 0;
+    while i < kinds.len() {
+        marks += mark_of(wide(kinds[i]));
+        i += 1;
+    }
+    marks
+}
+
+// Flattens a patch: each function's own ops, then main. An entry of each function's body goes to the three lists: its number, its first op
+// and its op count.
+pub fn flatten_numbers(
+    bytes: &[u8],
+    out: &mut [u8],
+    numbers: &mut [u32],
+    firsts: &mut [u32],
+    counts: &mut [u32],
+) -> Flattened
+    ensures { λ r. ⌜ outcome r (now (out .exit)) (now (numbers .exit)) (now (firsts .exit)) (now (counts .exit)) ≡ flattenOf (now (bytes .entry)) (now (out .entry)) (now (numbers .entry)) (now (firsts .entry)) (now (counts .entry)) ⌝ }
+{
+    let mut kinds = [0u8; 4096];
+    let mut lanes = [0u16; 4096];
+    let mut needs = [0u16; 4096];
+    let mut places = [0u32; 4096];
+    let read = load(bytes, &mut kinds, &mut lanes, &mut needs, &mut places);
+    let number = read.number;
+    let place = read.place;
+    if number != 0 {
+        return Flattened::BadFile { number, place };
+    }
+    let mut owner = [0u16; 4096];
+    let mut seen = [0u8; 4097];
+    let numbering = number_ops(&kinds[..place], &mut owner, &mut seen);
+    if let Numbering::NoOpenEnd(op) = numbering {
+        return Flattened::NoOpenEnd { op };
+    }
+    if out.len() < bytes.len() {
+        return Flattened::NoRoom;
+    }
+    let marks = count_marks(&kinds[..place]);
+    if numbers.len() < marks {
+        return Flattened::NoRoom;
+    }
+    if firsts.len() < marks {
+        return Flattened::NoRoom;
+    }
+    if counts.len() < marks {
+        return Flattened::NoRoom;
+    }
+    let bodies = write_bodies(bytes, &owner[..place], &seen, out, numbers, firsts, counts);
+    Flattened::Written {
+        ops: place,
+        bytes: bytes.len(),
+        bodies,
+    }
+}
