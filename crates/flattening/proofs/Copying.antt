@@ -21,7 +21,7 @@ use Rattle.ops.proofs.Fitting.{short, below-all}
 use Rattle.ops.proofs.Meaning.{ops-are}
 use Rattle.ops.proofs.Rewritten.{bytes-back}
 use Rattle.ops.proofs.Storage.{placed-none, placed-then, length-placed}
-use Rattle.ops.proofs.Written.{length-encode}
+use Rattle.ops.proofs.Written.{length-encode, encode-append}
 use Rattle.flattening.specs.Flatten.{body}
 use Rattle.flattening.specs.Scope.{partOf}
 use Rattle.flattening.specs.Flattened.{held, opsIn}
@@ -35,11 +35,6 @@ module _ (s : List ℕ) (z : patchOf s .number ≡ 0) where
 
   pub file-bytes : Below 256 s → encodeAll (opsIn s) ≡ s
   file-bytes w = bytes-back s w (opsIn s) held-is
-
-pub encode-append : (xs ys : List Op) → encodeAll (xs ++ ys) ≡ encodeAll xs ++ encodeAll ys
-unfolding encodeAll
-encode-append [] ys = refl
-encode-append (x ∷ xs) ys = ap (λ (l : List ℕ). encode x ++ l) (encode-append xs ys) ∙ sym (append-assoc (encode x) (encodeAll xs) (encodeAll ys))
 
 pub encode-length : (xs ys : List Op) → length (encodeAll (xs ++ ys)) ≡ length (encodeAll xs) + length (encodeAll ys)
 encode-length xs ys = ap length (encode-append xs ys) ∙ length-append (encodeAll xs) (encodeAll ys)

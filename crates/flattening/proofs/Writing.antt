@@ -14,7 +14,8 @@ use Rattle.flattening.specs.Flatten.{Body, body, bodies, gathered, other
 use Rattle.flattening.specs.Scope.{listed}
 use Rattle.flattening.specs.Flattened.{numberIn, firstIn, countIn}
 use Rattle.flattening.proofs.Flags.{others-listed, listed-over, listed-at}
-use Rattle.flattening.proofs.Copying.{encode-append, encode-length}
+use Rattle.ops.proofs.Written.{encode-append}
+use Rattle.flattening.proofs.Copying.{encode-length}
 
 -- ---- storage that is filled part by part
 

@@ -12,7 +12,7 @@ use Rattle.ops.specs.Op.{Op, kindOf}
 use Rattle.ops.specs.Patch.{Item, Loaded, push, walk, patchOf, markOf}
 use Rattle.ops.specs.Ops.{opAt, opCount, opsOf}
 use Rattle.ops.specs.Ops.Patch.{ops}
-use Rattle.ops.specs.Write.{payloadOf, encode, encodeAll, EachFits, markIn, marksIn, AllFit}
+use Rattle.ops.specs.Write.{payloadOf, encode, encodeAll, Fits, Each, markIn, marksIn, AllFit}
 use Rattle.ops.proofs.Digits.{after}
 use Rattle.ops.proofs.Reading.{walk-end, walk-op}
 use Rattle.ops.proofs.Encoded.{known}
@@ -32,7 +32,7 @@ module _ (s : List ℕ) where
       let e : p + length (encode o) ≡ p + 6 + length (payloadOf o) = omega (arith, length-encode o) in
       ap (λ (k : ℕ). drop k s) (sym e) ∙ after s p (encode o) t d
 
-  walk-all : (os : List Op) (left m p : ℕ) → EachFits os → length os ≤ left → m + marksIn os ≤ 256 → drop p s ≡ encodeAll os
+  walk-all : (os : List Op) (left m p : ℕ) → Each Fits os → length os ≤ left → m + marksIn os ≤ 256 → drop p s ≡ encodeAll os
       → walk s left m p ≡ good (itemsOf os p)
   unfolding encodeAll
   walk-all [] left m p f h w d =
@@ -50,7 +50,7 @@ module _ (s : List ℕ) where
       walk-op s m p left k (p + 6) (length (payloadOf o)) (opCount o) next b (sym (written o s p (encodeAll os) d (f .0))) c
       ∙ ap (push (itemOf o p)) (walk-all os left (m + markOf k) next (f .1) (omega arith) r (next-part o p (encodeAll os) d))
 
-  all-back : (os : List Op) (p : ℕ) → EachFits os → drop p s ≡ encodeAll os → map (opAt s) (itemsOf os p) ≡ os
+  all-back : (os : List Op) (p : ℕ) → Each Fits os → drop p s ≡ encodeAll os → map (opAt s) (itemsOf os p) ≡ os
   unfolding encodeAll
   all-back [] p f d = refl
   all-back (o ∷ os) p f d =
