@@ -361,12 +361,12 @@ def main():
     source += kinds("FLOAT_LANES", "The ops of a float lane alone.", FLOAT_LANES)
     source += table("INTS", "Lanes and cells of INT_CELLS.", INTS)
     source += table("FLOATS", "Lanes and cells of FLOAT_CELLS.", FLOATS)
-    source += table("LONE_INTS", "Lanes of INT_LANES.", INTS + LONE_INTS)
-    source += table("LONE_FLOATS", "Lanes of FLOAT_LANES.", FLOATS + LONE_FLOATS)
+    source += table("LONE_INTS", "Lanes of INT_LANES, beside INTS.", LONE_INTS)
+    source += table("LONE_FLOATS", "Lanes of FLOAT_LANES, beside FLOATS.", LONE_FLOATS)
     output = []
     for ops, lanes in ((INT_CELLS, INTS), (FLOAT_CELLS, FLOATS)):
         output += lines(ops, lanes, [(b,) for b, _ in lanes])
-    for ops, lanes in ((INT_LANES, INTS + LONE_INTS), (FLOAT_LANES, FLOATS + LONE_FLOATS)):
+    for ops, lanes in ((INT_LANES, INTS), (INT_LANES, LONE_INTS), (FLOAT_LANES, FLOATS), (FLOAT_LANES, LONE_FLOATS)):
         output += lines(ops, lanes, [()])
     os.makedirs(os.path.join(HOME, "src"), exist_ok=True)
     for name, text in (("src/vectors.rt", source), ("stdout", output)):

@@ -12,8 +12,8 @@ use Rattle.ops.specs.Op.{Op}
 use Rattle.ops.specs.Patch.{patchOf}
 use Rattle.ops.specs.Ops.{opsOf}
 use Rattle.ops.specs.Ops.Patch.{ops}
-use Rattle.ops.specs.Write.{encodeAll, Below, EachFits}
-use Rattle.ops.proofs.Fitting.{file-fit}
+use Rattle.ops.specs.Write.{encodeAll, Below, Fits, Each}
+use Rattle.ops.proofs.Fitting.{each-append, file-fit}
 use Rattle.ops.proofs.RoundTrip.{ops-back}
 use Rattle.machine_model.proofs.Scans.{clash}
 use Rattle.flattening.specs.Flatten.{notes, Numbered, number, body, bodies, gathered, others, laid, flatten}
@@ -27,34 +27,30 @@ use Rattle.flattening.proofs.Copying.{held-is, file-bytes}
 
 -- ---- the ops of the bodies fit a file, as those that are read do
 
-fits-append : (xs ys : List Op) → EachFits xs → EachFits ys → EachFits (xs ++ ys)
-fits-append [] ys a b = b
-fits-append (x ∷ xs) ys a b = (a .0, fits-append xs ys (a .1) b)
-
-fits-body : (b : ℕ) (cs : List ℕ) (os : List Op) → EachFits os → EachFits (body b cs os)
+fits-body : (b : ℕ) (cs : List ℕ) (os : List Op) → Each Fits os → Each Fits (body b cs os)
 unfolding body
 fits-body b [] os f = tt
 fits-body b (c ∷ cs) [] f = tt
 fits-body b (c ∷ cs) (o ∷ os) f = by (eqb b c) (fits-body b cs os (f .1))
   where
-    by : (x : Bool) → EachFits (body b cs os) → EachFits (cond x (o ∷ body b cs os) (body b cs os))
+    by : (x : Bool) → Each Fits (body b cs os) → Each Fits (cond x (o ∷ body b cs os) (body b cs os))
     by true t = (f .0, t)
     by false t = t
 
-fits-gathered : (bs cs : List ℕ) (os : List Op) → EachFits os → EachFits (gathered bs cs os)
+fits-gathered : (bs cs : List ℕ) (os : List Op) → Each Fits os → Each Fits (gathered bs cs os)
 unfolding gathered
 fits-gathered [] cs os f = tt
-fits-gathered (b ∷ bs) cs os f = fits-append (body b cs os) (gathered bs cs os) (fits-body b cs os f) (fits-gathered bs cs os f)
+fits-gathered (b ∷ bs) cs os f = each-append Fits (body b cs os) (gathered bs cs os) (fits-body b cs os f) (fits-gathered bs cs os f)
 
-fits-flat : (os fs : List Op) (es : List Body) → flatten os ≡ flat fs es → EachFits os → EachFits fs
+fits-flat : (os fs : List Op) (es : List Body) → flatten os ≡ flat fs es → Each Fits os → Each Fits fs
 unfolding flatten
 fits-flat os fs es e f = by (number 0 0 0 [] [] (notes os)) e
   where
-    by : (r : Numbered) → laid os r ≡ flat fs es → EachFits fs
+    by : (r : Numbered) → laid os r ≡ flat fs es → Each Fits fs
     by (stray p) x = clash (cc)
     by (numbered cs seen) x =
         let q : gathered (others seen) cs os ++ body 0 cs os ≡ fs = cc in
-        subst EachFits q (fits-append (gathered (others seen) cs os) (body 0 cs os) (fits-gathered (others seen) cs os f) (fits-body 0 cs os f))
+        subst (Each Fits) q (each-append Fits (gathered (others seen) cs os) (body 0 cs os) (fits-gathered (others seen) cs os f) (fits-body 0 cs os f))
 
 -- ---- a patch again
 

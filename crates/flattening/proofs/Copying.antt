@@ -21,8 +21,7 @@ use Rattle.ops.proofs.Fitting.{short, below-all}
 use Rattle.ops.proofs.Meaning.{ops-are}
 use Rattle.ops.proofs.Rewritten.{bytes-back}
 use Rattle.ops.proofs.Storage.{placed-none, placed-then, length-placed}
-use Rattle.ops.proofs.RoundTrip.{encode-append}
-use Rattle.ops.proofs.Written.{length-encode, parts, ends}
+use Rattle.ops.proofs.Written.{length-encode, encode-append, parts, ends}
 use Rattle.flattening.specs.Flatten.{body}
 use Rattle.flattening.specs.Scope.{partOf}
 use Rattle.flattening.specs.Flattened.{held, opsIn}

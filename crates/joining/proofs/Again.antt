@@ -14,7 +14,7 @@ use Rattle.ops.specs.Storage.{fill}
 use Rattle.ops.specs.Ops.{opsOf}
 use Rattle.ops.specs.Ops.Patch.{ops, refused}
 use Rattle.ops.specs.Op.{Op, argOf, valuesOf}
-use Rattle.ops.specs.Write.{encodeAll, Below, Fits, EachFits, markIn, marksIn, AllFit}
+use Rattle.ops.specs.Write.{encodeAll, Below, Fits, markIn, marksIn, AllFit}
 use Rattle.ops.proofs.Fitting.{file-fit}
 use Rattle.ops.proofs.Rewritten.{bytes-back}
 use Rattle.ops.proofs.RoundTrip.{ops-back}
@@ -22,7 +22,7 @@ use Rattle.joining.specs.Join.{join}
 use Rattle.joining.specs.Joined.{Outcome, outcome, write, joinedAs, joinOf, numberOf, placeOf, lengthOf}
 use Rattle.joining.specs.declared.join.Joined.{Joined}
 use Rattle.joining.specs.declared.join.Joined.the-variants.{NoRoom}
-use Rattle.joining.proofs.Pushes.{Each, weigh, join-light, join-has}
+use Rattle.joining.proofs.Pushes.{weigh, join-light, join-has}
 use Rattle.joining.proofs.Sizes.{join-shorter}
 
 -- ---- the limits
@@ -34,14 +34,6 @@ wrap-below (negsuc n) = omega arith
 bit-below : (b : Bool) → bit b < 2 ^ 64
 bit-below true = omega arith
 bit-below false = omega arith
-
-to-each : (os : List Op) → EachFits os → Each Fits os
-to-each [] e = tt
-to-each (o ∷ os) e = (e .0, to-each os (e .1))
-
-from-each : (os : List Op) → Each Fits os → EachFits os
-from-each [] e = tt
-from-each (o ∷ os) e = (e .0, from-each os (e .1))
 
 count-all : (os : List Op) → weigh (λ o. 1) os ≡ length os
 count-all [] = refl
@@ -57,10 +49,9 @@ join-fewer os =
 
 join-fits : (os : List Op) → AllFit os → AllFit (join os)
 join-fits os f = record {
-  each = from-each (join os)
-      (join-has Fits (λ last new e. (omega arith, (bit-below (nonNeg (signed (getD (valuesOf last) 0 0))), tt)))
+  each = join-has Fits (λ last new e. (omega arith, (bit-below (nonNeg (signed (getD (valuesOf last) 0 0))), tt)))
       (λ last new. wrap-below (signed (argOf last) +ℤ signed (argOf new)))
-      os (to-each os (f .each)));
+      os (f .each);
   ops = omega (arith, join-fewer os, f .ops);
   marks = omega (arith, join-light markIn (λ last new e. omega arith) (λ last new n e. omega arith) os, marks-all os, marks-all (join os), f .marks);
   bytes = omega (arith, join-shorter os, f .bytes);

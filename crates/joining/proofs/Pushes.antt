@@ -10,7 +10,9 @@ use borrow.Author.Tests.{eqb-true}
 use Rattle.ops.specs.Op.{Op, kindOf}
 use Rattle.ops.specs.Op.Plain.{move}
 use Rattle.ops.specs.Op.Op.{plain}
+use Rattle.ops.specs.Write.{Each}
 use Rattle.ops.proofs.Clash.{clash}
+use Rattle.ops.proofs.Fitting.{each-append}
 use Rattle.joining.specs.Join.{Rule, both, alike, decided, tested, total, rule, moved, react, op, pushes, join}
 use Rattle.joining.specs.Join.Rule.{push, skip, pop, again, under, sum}
 
@@ -127,14 +129,6 @@ module _ (m : Op → ℕ)
   join-light os = omega (arith, weigh-reverse m (pushes [] os), pushes-light os [])
 
 -- ---- properties
-
-abbrev pub Each : (Op → Type 0) → List Op → Type 0
-Each P [] = Unit {0}
-Each P (o ∷ os) = P o × Each P os
-
-pub each-append : (P : Op → Type 0) (a b : List Op) → Each P a → Each P b → Each P (a ++ b)
-each-append P [] b f g = g
-each-append P (o ∷ a) b f g = (f .0, each-append P a b (f .1) g)
 
 each-reverse : (P : Op → Type 0) (os : List Op) → Each P os → Each P (reverse os)
 each-reverse P [] e = tt

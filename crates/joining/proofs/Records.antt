@@ -6,7 +6,7 @@ use native.Mathlib.Nat.{not-suc-le-zero, zero-add, add-zero, le-refl, le-antisym
 use native.Mathlib.Numerals.{add-one}
 use native.Mathlib.Omega.{arith}
 use mathlib.Core.Bool.{Bool, true, false, cond}
-use mathlib.Core.List.{List, [], _∷_, _++_, map, reverse, reverse-cons, append-assoc, append-nil}
+use mathlib.Core.List.{List, [], _∷_, _++_, map, reverse, reverse-cons, append-nil}
 use lib.Dec.{eqb}
 use lib.ListN.{length, getD, take, drop, length-append}
 use lib.Seq.{take-at}
@@ -30,6 +30,7 @@ use Rattle.ops.proofs.Whole.{tells}
 use Rattle.ops.proofs.Items.{IsItem}
 use Rattle.ops.proofs.Rewritten.{record-again}
 use Rattle.ops.proofs.Clash.{clash}
+use Rattle.ops.proofs.Written.{encode-append}
 use Rattle.joining.specs.Stack.{Entry, entry, valued, valueOf, pushOn, itemAt, Holds, after, opWithin, opOf, stack, file, Within}
 use Rattle.joining.proofs.Seen.{is-item}
 
@@ -238,16 +239,11 @@ after-all s ks ns i n st a b e = e ∙ ap (after s ks ns) (le-antisymm a b)
 
 -- ---- one entry after another
 
-pub encode-all-append : (a b : List Op) → encodeAll (a ++ b) ≡ encodeAll a ++ encodeAll b
-unfolding encodeAll
-encode-all-append [] b = refl
-encode-all-append (o ∷ a) b = ap (λ (l : List ℕ). encode o ++ l) (encode-all-append a b) ∙ sym (append-assoc (encode o) (encodeAll a) (encodeAll b))
-
 file-more : (s : List ℕ) (e : Entry) (st : List Entry) → file s (e ∷ st) ≡ file s st ++ encode (opOf s e)
 unfolding file encodeAll
 file-more s e st =
     ap encodeAll (reverse-cons (opOf s e) (map (opOf s) st))
-    ∙ encode-all-append (reverse (map (opOf s) st)) (opOf s e ∷ [])
+    ∙ encode-append (reverse (map (opOf s) st)) (opOf s e ∷ [])
     ∙ ap (λ (l : List ℕ). file s st ++ l) (append-nil (encode (opOf s e)))
 
 module _ (s is vs : List ℕ) where

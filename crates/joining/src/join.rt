@@ -20,7 +20,7 @@ pub enum Joined {
 }
 
 // Each of the file's ops pushed in turn; how many entries are left.
-pub fn push_all(
+fn push_all(
     bytes: &[u8],
     kinds: &[u8],
     counts: &[u16],

@@ -1,4 +1,4 @@
 // Joining: each op of a patch pushed on the ops before it.
-pub mod stack; // the push of an op on the ops before it
-pub mod write; // the ops left, as a file
+mod stack; // the push of an op on the ops before it
+mod write; // the ops left, as a file
 pub mod join; // a whole file

@@ -83,6 +83,8 @@ fn each(kinds: &[u64], lanes: &[u64], cells: &[u64]) {
 fn main() {
     each(&vectors::INT_CELLS, &vectors::INTS, &vectors::INTS);
     each(&vectors::FLOAT_CELLS, &vectors::FLOATS, &vectors::FLOATS);
+    each(&vectors::INT_LANES, &vectors::INTS, &[0]);
     each(&vectors::INT_LANES, &vectors::LONE_INTS, &[0]);
+    each(&vectors::FLOAT_LANES, &vectors::FLOATS, &[0]);
     each(&vectors::FLOAT_LANES, &vectors::LONE_FLOATS, &[0]);
 }

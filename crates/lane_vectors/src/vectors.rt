@@ -93,22 +93,8 @@ pub const FLOATS: [u64; 24] = [
     0x7FF0000000000001, // a signalling NaN
 ];
 
-// Lanes of INT_LANES.
-pub const LONE_INTS: [u64; 23] = [
-    0x0000000000000000, // 0
-    0x0000000000000001, // 1
-    0x0000000000000002, // 2
-    0x0000000000000007, // 7
-    0xFFFFFFFFFFFFFFFF, // -1
-    0xFFFFFFFFFFFFFFFE, // -2
-    0xFFFFFFFFFFFFFFF9, // -7
-    0x000000000000003F, // 63
-    0x0000000000000040, // 64
-    0x123456789ABCDEF0, // digits of every kind
-    0xFEDCBA9876543211, // the same, negative
-    0x00000000FFFFFFFF, // a low half full
-    0x7FFFFFFFFFFFFFFF, // the largest
-    0x8000000000000000, // the least
+// Lanes of INT_LANES, beside INTS.
+pub const LONE_INTS: [u64; 9] = [
     0x0020000000000001, // 2^53 + 1, a tie
     0x0020000000000003, // 2^53 + 3, a tie
     0xFFDFFFFFFFFFFFFF, // -(2^53 + 1), a tie
@@ -120,32 +106,8 @@ pub const LONE_INTS: [u64; 23] = [
     0xFFFFFFFF00000000, // -2^32
 ];
 
-// Lanes of FLOAT_LANES.
-pub const LONE_FLOATS: [u64; 38] = [
-    0x0000000000000000, // 0
-    0x8000000000000000, // -0
-    0x3FE0000000000000, // 0.5
-    0x3FF0000000000000, // 1
-    0xBFF0000000000000, // -1
-    0x3FF0000000000001, // the next after 1
-    0x4008000000000000, // 3
-    0xC004000000000000, // -2.5
-    0x3FB999999999999A, // 0.1
-    0x4340000000000000, // 2^53
-    0xC340000000000001, // -(2^53 + 2)
-    0x0000000000000001, // the least subnormal
-    0x8000000000000003, // -3 of it
-    0x000FFFFFFFFFFFFF, // the largest subnormal
-    0x0010000000000000, // the least normal
-    0x1E68000000000000, // 1.5 * 2^-537
-    0x7C90000000000000, // 2^970, half a step of the largest
-    0x7FEFFFFFFFFFFFFF, // the largest
-    0xFFEFFFFFFFFFFFFF, // -the largest
-    0x7FF0000000000000, // infinity
-    0xFFF0000000000000, // -infinity
-    0x7FF8000000000000, // the stored NaN
-    0xFFF8000000000123, // a negative quiet NaN with a payload
-    0x7FF0000000000001, // a signalling NaN
+// Lanes of FLOAT_LANES, beside FLOATS.
+pub const LONE_FLOATS: [u64; 14] = [
     0x3FEFFFFFFFFFFFFF, // the last before 1
     0xBFEFFFFFFFFFFFFF, // -the last before 1
     0x3FF8000000000000, // 1.5

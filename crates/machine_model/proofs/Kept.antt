@@ -15,6 +15,7 @@ use Rattle.ops.specs.Op.{Op, Control, Plain, isFunction, isWhile}
 use Rattle.ops.specs.Op.Control.{function, call, ret, while, if, else, end}
 use Rattle.ops.specs.Op.Plain.{comment, store, move, swap, locate, offset, deref, refer, cell, lane, get, put, peek, poke, alloc, free}
 use Rattle.ops.specs.Op.Op.{control, set, load, plain}
+use Rattle.ops.specs.Write.{PlainFits, Fits}
 use Rattle.ops.specs.declared.op.Mode.{Mode}
 use Rattle.ops.specs.declared.op.Mode.the-variants.{Char, Int, Other}
 use Rattle.testing_device.specs.declared.device.Got.{Got}
@@ -26,7 +27,7 @@ use Rattle.machine_model.specs.Step.{enter, jump, endOf, elseOf, called,
 use Rattle.machine_model.specs.Step.Outcome.{next}
 use Rattle.machine_model.specs.Run.{run}
 use Rattle.machine_model.specs.Formed.{Each, Rising, Marked, Formed}
-use Rattle.machine_model.specs.Limited.{span, Limited}
+use Rattle.machine_model.specs.Limited.{Limited}
 use Rattle.machine_model.proofs.Each.{each-end, each-take, each-at}
 use Rattle.machine_model.proofs.Scans.{clash, length-marks, end-below, else-below, function-below, while-below, kth-is}
 use Rattle.machine_model.proofs.Table.{each-enter, rising-enter, marks-few}
@@ -276,7 +277,7 @@ module _ (g : Given) (lim : Limited (g .ops)) where
     peek-in [] e = stopped
     peek-in (v ∷ vs) e = formed _ here places (f .near, f .short, lane-fits v, omega (arith, f .few-sent, ap length e), f .read, f .fits)
 
-    act-in : (p : Plain) → span (plain p) ≤ lanes → Leads (Formed g) (act g p s)
+    act-in : (p : Plain) → PlainFits p → Leads (Formed g) (act g p s)
     unfolding act
     act-in (store n) h = bar-leads (Formed g) _ 23 _ (λ _. formed _ here places (f .near, covered n h, f .narrow, f .few-sent, f .read, f .fits))
     act-in deref h = bar-leads (Formed g) _ 32 _ (λ e. bar-leads (Formed g) _ 23 _ (λ _. deref-in (getD (s .tape) (s .pointer) 0) e))
@@ -306,13 +307,13 @@ module _ (g : Given) (lim : Limited (g .ops)) where
     act-in free h = goes-on
     act-in (comment bs) h = goes-on
 
-    exec-in : (o : Op) → opAt (g .ops) (s .at) ≡ o → span o ≤ lanes → Leads (Formed g) (exec g o s)
+    exec-in : (o : Op) → opAt (g .ops) (s .at) ≡ o → Fits o → Leads (Formed g) (exec g o s)
     unfolding exec
     exec-in (control c) is h = turn-in c is
     exec-in (load n) is h =
         bar-leads (Formed g) _ 23 _
         (λ _. formed _ here places (f .near, covered n h, simp length-take (omega (arith, h)), f .few-sent, f .read, f .fits))
-    exec-in (set k vs) is h = formed _ here places (with-reg vs h)
+    exec-in (set k vs) is h = formed _ here places (with-reg vs (h .0))
     exec-in (plain p) is h = act-in p h
 
   pub step-leads : (s : State) → Formed g s → Leads (Formed g) (step g s)
@@ -320,7 +321,7 @@ module _ (g : Given) (lim : Limited (g .ops)) where
   step-leads s f =
       pick-leads (Formed g) _ _ _ (λ _. ended)
       (λ e. bar-leads (Formed g) _ 21 _
-      (λ _. exec-in s f (leb-false _ _ (or-right (s .halted) _ e)) (opAt (g .ops) (s .at)) refl (lim .spans (s .at))))
+      (λ _. exec-in s f (leb-false _ _ (or-right (s .halted) _ e)) (opAt (g .ops) (s .at)) refl (lim .each (s .at))))
 
   -- a step of a patch within the limits leads from a well-formed state to one
   pub step-formed : (s t : State) → Formed g s → step g s ≡ next t → Formed g t

@@ -1,8 +1,7 @@
 -- A step leads from a state whose values are 64-bit words to another; so does a run. Assumes nothing.
-use Prim.Native.Nat.{ℕ, zero, suc, _+_, _-_, _*_, _/_, _%_, _^_, _≤_, _<_}
+use Prim.Native.Nat.{ℕ, suc, _+_, _-_, _^_, _≤_}
 use native.Mathlib.Omega.{arith}
-use borrow.Author.Tests.{ltb-true}
-use mathlib.Core.Path.{_≡_, refl}
+use mathlib.Core.Path.{_≡_}
 use mathlib.Core.Bool.{Bool, true, false, cond}
 use mathlib.Core.List.{List, [], _∷_, _++_, reverse}
 use mathlib.Core.Option.{Option, none, some}
@@ -17,19 +16,21 @@ use Rattle.ops.specs.Op.{Op, Control, Plain, isWhile}
 use Rattle.ops.specs.Op.Control.{function, call, ret, while, if, else, end}
 use Rattle.ops.specs.Op.Plain.{comment, store, move, swap, locate, offset, deref, refer, cell, lane, get, put, peek, poke, alloc, free}
 use Rattle.ops.specs.Op.Op.{control, set, load, plain}
-use Rattle.ops.specs.declared.op.Mode.{Mode}
-use Rattle.ops.specs.declared.op.Mode.the-variants.{Char, Int, Other}
+use Rattle.ops.specs.Write.{Below, Fits}
 use Rattle.testing_device.specs.declared.device.Got.{Got}
-use Rattle.testing_device.specs.declared.device.Got.the-variants.{Value, Empty}
-use Rattle.testing_device.specs.Device.{getOf, putOf, decimalFrom, decimal, written, intFrom, charFrom, leading, isSpace, isDigit}
+use Rattle.testing_device.specs.Device.{getOf}
+use Rattle.testing_device.proofs.Words as device
+use Rattle.testing_device.proofs.Inputs.{Bounded, get-bounded}
+use Rattle.testing_device.proofs.Inputs.Bounded.{empty, value}
+use Rattle.testing_device.proofs.Outputs.{put-words}
 use Rattle.machine_model.specs.State.{State, Given, fresh, lanes, lane0, goTo, on, withTable}
 use Rattle.machine_model.specs.Scan.{opAt, marks, functions, toOpen, kth}
 use Rattle.machine_model.specs.Step.{jump, endOf, elseOf, found, back, again, turn, enter, minus, cells, stored, grown, referTo, moveBy, gotten, peekAt, act, exec, op, step}
 use Rattle.machine_model.specs.Step.Outcome.{next}
 use Rattle.machine_model.specs.Run.{run}
 use Rattle.machine_model.specs.Formed.{Each, Formed}
-use Rattle.machine_model.specs.Limited.{Word, numbers, Limited}
-use Rattle.machine_model.specs.Words.{Words}
+use Rattle.machine_model.specs.Limited.{Limited}
+use Rattle.machine_model.specs.Words.{Word, Words}
 use Rattle.machine_model.proofs.Each.{each-append, each-end, each-take, each-drop, each-getD, each-set, each-replicate, each-map, each-zip}
 use Rattle.machine_model.proofs.Outcomes.{Leads, bar-leads, pick-leads, next-leads, both-lead, run-keeps}
 use Rattle.machine_model.proofs.Outcomes.Leads.{ended, stopped, goes}
@@ -37,51 +38,13 @@ use Rattle.machine_model.proofs.Kept.{step-leads}
 
 -- ---- what the device gives
 
-decimalFrom-word : (a : ℕ) (vs : List ℕ) → Word a → Word (decimalFrom a vs)
-unfolding decimalFrom
-decimalFrom-word a [] h = h
-decimalFrom-word a (v ∷ vs) h = decimalFrom-word ((a * 10 + (v % 256 - 48)) % 2 ^ 64) vs (omega arith)
+-- words as the device has them
+device-words : (vs : List ℕ) → Each Word vs → device.Words vs
+device-words vs a = record { at = λ i. each-getD Word vs i (omega arith) a }
 
--- the value that Get gives is a word
-data Gives : Got → Type 0 where
-  nothing : Gives Empty
-  word : {v p : ℕ} → Word v → Gives (Value v p)
-
-char-gives : (vs : List ℕ) (at : ℕ) → Each Word vs → Gives (charFrom vs at)
-char-gives [] at a = nothing
-char-gives (v ∷ vs) at a = word (a .0)
-
-get-gives : (m : Mode) (input : List ℕ) (at : ℕ) → Each Word input → Gives (getOf m input at)
-unfolding getOf intFrom
-get-gives Char input at a = char-gives (drop at input) at (each-drop Word at input a)
-get-gives Int input at a =
-    let vs = drop at input in
-    let n = leading isSpace vs in
-    word (decimalFrom-word 0 (take (leading isDigit (drop n vs)) (drop n vs)) (omega arith))
-get-gives Other input at a = word {v = 0} (omega arith)
-
-decimal-words : (k n : ℕ) → Each Word (decimal k n)
-unfolding decimal
-decimal-words zero n = tt
-decimal-words (suc k) n = by (ltb n 10) refl (decimal-words k (n / 10))
-  where
-    by : (b : Bool) → ltb n 10 ≡ b → Each Word (decimal k (n / 10)) → Each Word (cond b ((48 + n) ∷ []) (decimal k (n / 10) ++ ((48 + n % 10) ∷ [])))
-    by true e a = (omega (arith, ltb-true n 10 e), tt)
-    by false e a = each-end Word (decimal k (n / 10)) (48 + n % 10) a (omega arith)
-
-written-words : (v : ℕ) → Each Word (written v)
-unfolding written
-written-words v = by (ltb v (2 ^ 63))
-  where
-    by : (b : Bool) → Each Word (cond b (decimal 20 v) (45 ∷ decimal 20 (2 ^ 64 - v)))
-    by true = decimal-words 20 v
-    by false = (omega arith, decimal-words 20 (2 ^ 64 - v))
-
-put-words : (m : Mode) (v : ℕ) → Word v → Each Word (putOf m v)
-unfolding putOf
-put-words Char v h = (h, tt)
-put-words Int v h = written-words v
-put-words Other v h = tt
+each-word : (vs : List ℕ) → device.Words vs → Each Word vs
+each-word [] w = tt
+each-word (v ∷ vs) w = (w .at 0, each-word vs (device.words-tail v vs w))
 
 -- ---- an op
 
@@ -95,6 +58,11 @@ grown-le n = by (ltb n 30_000)
 -- the tape, the channel and the outputs
 abbrev Values : List ℕ → List ℕ → List ℕ → Type 0
 Values tape channel outs = Each Word tape × Each Word channel × Each Word outs
+
+-- the values of a Set
+below-words : (vs : List ℕ) → Below (2 ^ 64) vs → Each Word vs
+below-words [] h = tt
+below-words (v ∷ vs) h = (h .0, below-words vs (h .1))
 
 module _ (g : Given) (lim : Limited (g .ops)) where
   offset-word : (v a : ℕ) → Word a → Word (intAdd a v)
@@ -171,58 +139,58 @@ module _ (g : Given) (lim : Limited (g .ops)) where
     move-in m true = bar-leads (Words g) _ 24 _ (λ _. worded _ (w .in-reg) rest)
     move-in m false = bar-leads (Words g) _ 25 _ (λ _. worded _ (w .in-reg) rest)
 
-    get-in : (r : Got) → Gives r → Leads (Words g) (gotten s r)
-    get-in r nothing = stopped
-    get-in r (word {v = v} h) = worded _ (with-lane v h) rest
+    get-in : (r : Got) → Bounded (g .input) (s .taken) r → Leads (Words g) (gotten s r)
+    get-in r empty = stopped
+    get-in r (value v n h _ _) = worded _ (with-lane v h) rest
 
     peek-in : (vs : List ℕ) → Each Word vs → Leads (Words g) (peekAt s vs)
     peek-in [] a = stopped
     peek-in (v ∷ vs) a = worded _ (with-lane v (a .0)) (w .in-tape, a .1, w .in-outs)
 
-    act-in : (p : Plain) → Each Word (numbers (plain p)) → Leads (Words g) (act g p s)
+    act-in : (p : Plain) → Leads (Words g) (act g p s)
     unfolding act
-    act-in (store n) h = bar-leads (Words g) _ 23 _ (λ _. worded _ (w .in-reg) (stored-words n, w .in-channel, w .in-outs))
-    act-in deref h =
+    act-in (store n) = bar-leads (Words g) _ 23 _ (λ _. worded _ (w .in-reg) (stored-words n, w .in-channel, w .in-outs))
+    act-in deref =
         bar-leads (Words g) _ 32 _
         (λ _. bar-leads (Words g) _ 23 _ (λ _. bar-leads (Words g) _ 26 _ (λ _. bar-leads (Words g) _ 25 _ (λ _. worded _ (w .in-reg) rest))))
-    act-in refer h = refer-in (s .refs)
-    act-in (cell k n) h =
+    act-in refer = refer-in (s .refs)
+    act-in (cell k n) =
         bar-leads (Words g) _ 22 _
         (λ _. bar-leads (Words g) _ 23 _
         (λ _. worded _
         (each-zip Word (cellRule k) (λ a b p q. cellRule-below k a b p) n (s .reg) (drop (s .pointer) (s .tape)) (w .in-reg) (each-drop Word (s .pointer) (s .tape) (w .in-tape))) rest))
-    act-in (swap n) h =
+    act-in (swap n) =
         bar-leads (Words g) _ 22 _
         (λ _. bar-leads (Words g) _ 23 _
         (λ _. worded _
         (each-append Word (cells s n) (drop n (s .reg)) (cells-words n) (each-drop Word n (s .reg) (w .in-reg))) (stored-words n, w .in-channel, w .in-outs)))
-    act-in (move m) h = move-in m (minus m)
-    act-in alloc h =
+    act-in (move m) = move-in m (minus m)
+    act-in alloc =
         bar-leads (Words g) _ 30 _
         (λ _. worded _ (with-lane (grown (s .counted) - 1) (omega (arith, grown-le (s .counted), f .short))) rest)
-    act-in (get m) h = get-in (getOf m (g .input) (s .taken)) (get-gives m (g .input) (s .taken) (w .in-input))
-    act-in (put m) h =
+    act-in (get m) = get-in (getOf m (g .input) (s .taken)) (get-bounded m (g .input) (s .taken) (device-words (g .input) (w .in-input)))
+    act-in (put m) =
         bar-leads (Words g) _ 36 _
-        (λ _. worded _ (w .in-reg) (w .in-tape, w .in-channel, each-append Word (s .outs) _ (w .in-outs) (put-words m (lane0 s) lane0-word)))
-    act-in peek h = peek-in (s .channel) (w .in-channel)
-    act-in poke h =
+        (λ _. worded _ (w .in-reg) (w .in-tape, w .in-channel, each-append Word (s .outs) _ (w .in-outs) (each-word _ (put-words m (lane0 s) lane0-word))))
+    act-in peek = peek-in (s .channel) (w .in-channel)
+    act-in poke =
         bar-leads (Words g) _ 34 _ (λ _. worded _ (w .in-reg) (w .in-tape, each-end Word (s .channel) (lane0 s) (w .in-channel) lane0-word, w .in-outs))
-    act-in locate h = worded _ (with-lane (s .pointer) (omega (arith, f .near))) rest
-    act-in (lane k n) h = worded _ (each-map Word (laneRule k) (λ a p. laneRule-below k a) n (s .reg) (w .in-reg)) rest
-    act-in (offset v n) h = worded _ (each-map Word (λ a. intAdd a v) (offset-word v) n (s .reg) (w .in-reg)) rest
-    act-in free h = worded _ (w .in-reg) rest
-    act-in (comment bs) h = worded _ (w .in-reg) rest
+    act-in locate = worded _ (with-lane (s .pointer) (omega (arith, f .near))) rest
+    act-in (lane k n) = worded _ (each-map Word (laneRule k) (λ a p. laneRule-below k a) n (s .reg) (w .in-reg)) rest
+    act-in (offset v n) = worded _ (each-map Word (λ a. intAdd a v) (offset-word v) n (s .reg) (w .in-reg)) rest
+    act-in free = worded _ (w .in-reg) rest
+    act-in (comment bs) = worded _ (w .in-reg) rest
 
-    exec-in : (o : Op) → Each Word (numbers o) → Leads (Words g) (exec g o s)
+    exec-in : (o : Op) → Fits o → Leads (Words g) (exec g o s)
     unfolding exec
     exec-in (control c) h = turn-in c
     exec-in (load n) h = bar-leads (Words g) _ 23 _ (λ _. worded _ (cells-words n) rest)
-    exec-in (set k vs) h = worded _ h rest
-    exec-in (plain p) h = act-in p h
+    exec-in (set k vs) h = worded _ (below-words vs (h .1)) rest
+    exec-in (plain p) h = act-in p
 
     words-leads : Leads (Words g) (step g s)
     unfolding step op
-    words-leads = pick-leads (Words g) _ _ _ (λ _. ended) (λ _. bar-leads (Words g) _ 21 _ (λ _. exec-in (opAt (g .ops) (s .at)) (lim .words (s .at))))
+    words-leads = pick-leads (Words g) _ _ _ (λ _. ended) (λ _. bar-leads (Words g) _ 21 _ (λ _. exec-in (opAt (g .ops) (s .at)) (lim .each (s .at))))
 
   -- a step of a well-formed state of words gives words
   pub step-words : (s t : State) → Formed g s → Words g s → step g s ≡ next t → Words g t

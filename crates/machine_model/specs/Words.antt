@@ -1,7 +1,11 @@
 -- The values of a state are the bits of 64-bit integers. Assumes nothing.
+use Prim.Native.Nat.{ℕ, _<_, _^_}
 use Rattle.machine_model.specs.State.{State, Given}
 use Rattle.machine_model.specs.Formed.{Each}
-use Rattle.machine_model.specs.Limited.{Word}
+
+-- the bits of an i64
+abbrev pub Word : ℕ → Type 0
+Word v = v < 2 ^ 64
 
 -- lanes, cells, the channel's values, the input's and the outputs
 pub record Words (g : Given) (s : State) : Type 0 where

@@ -10,14 +10,12 @@ use lib.ListN.{length, getD, set, take, drop, length-append, length-set, take-ap
 use lib.Seq.{take-suc, length-take-le, getD-append-seam, getD-take, set-split}
 use borrow.Author.Tests.{lt-ltb, le-ltb, eq-eqb, ne-eqb, ltb-true, ltb-false, eqb-true, eqb-false}
 use Rattle.ops.specs.Storage.{fill}
+use Rattle.testing_device.proofs.Words.{byCase}
 use Rattle.machine_model.specs.Step.{enter}
 use Rattle.machine_model.specs.Formed.{Each, Rising}
+use Rattle.machine_model.proofs.Each.{each-at}
 use Rattle.machine_ops.specs.Place.{pick}
 use Rattle.machine_ops.specs.Found.{hasIn, siftOf, enteredIn, countedIn}
-
-byCase : {P : Type 0} (b : Bool) → (b ≡ true → P) → (b ≡ false → P) → P
-byCase true f g = f refl
-byCase false f g = g refl
 
 -- ---- a turn of the search, and of the last place's way down
 
@@ -51,11 +49,6 @@ sift-on i j ts s h =
 
 -- ---- lists that rise
 
-each-at : (P : ℕ → Type 0) (qs : List ℕ) (i : ℕ) → Each P qs → i < length qs → P (getD qs i 0)
-each-at P [] i e h = absurd (omega arith)
-each-at P (q ∷ qs) zero e h = e .0
-each-at P (q ∷ qs) (suc i) e h = each-at P qs i (e .1) (omega arith)
-
 each-front : (P : ℕ → Type 0) (bs : List ℕ) (a : ℕ) → Each P (bs ++ (a ∷ [])) → Each P bs
 each-front P [] a e = tt
 each-front P (b ∷ bs) a e = (e .0, each-front P bs a (e .1))
@@ -76,7 +69,7 @@ unfolding enter
 enter-known [] i r h = absurd (omega arith)
 enter-known (q ∷ qs) zero r h = rw (le-ltb q q (omega arith), eq-eqb q q refl) refl
 enter-known (q ∷ qs) (suc i) r h =
-    let b : q < getD qs i 0 = each-at (λ y. q < y) qs i (r .0) (omega arith) in
+    let b : q < getD qs i 0 = each-at (λ y. q < y) qs i (omega arith) (r .0) in
     rw (le-ltb (getD qs i 0) q (omega arith), ne-eqb (getD qs i 0) q (λ e. omega arith)) (ap (λ (z : List ℕ). q ∷ z) (enter-known qs i (r .1) (omega arith)))
 
 -- a place below the last one

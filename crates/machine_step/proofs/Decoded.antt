@@ -8,24 +8,22 @@ use native.Mathlib.Nat.{not-suc-le-zero, le-of-suc-le-suc}
 use lib.Dec.{leb, eqb}
 use lib.ListN.{length, getD, length-map, List·getD-map, List·getD-eq-default}
 use borrow.Author.Tests.{leb-true, leb-false, eqb-true}
-use Rattle.ops.specs.Bytes.{u64At, valuesAt}
 use Rattle.ops.specs.Kinds.{shape, kindAt, runNeed}
 use Rattle.ops.specs.Record.{lengthOk, countOf}
 use Rattle.ops.specs.Patch.{Item, item, patchOf, kindIn, countIn, needIn, placeIn, markOf}
-use Rattle.ops.specs.Op.{Op, Plain, Mark, isWhile, needs}
-use Rattle.ops.specs.Op.Plain.{comment, store, move, swap, locate, offset, deref, refer, cell, lane, get, put, peek, poke, alloc, free}
-use Rattle.ops.specs.Op.Op.{control, set, load, plain}
-use Rattle.ops.specs.Ops.{rowAt, plainWith, opWith, plainCount, opCount}
+use Rattle.ops.specs.Op.{Op, Mark, isWhile, needs}
+use Rattle.ops.specs.Op.Plain.{comment}
+use Rattle.ops.specs.Op.Op.{plain}
+use Rattle.ops.specs.Write.{Fits}
 use Rattle.ops.specs.Ops as file
 use Rattle.ops.proofs.Whole.{Tells, tells}
-use Rattle.ops.proofs.Items.{IsItem, inside, Every, items-are, item-at, few-items, marksIn, few-marks}
+use Rattle.ops.proofs.Items.{IsItem, Every, items-are, item-at, few-items, marksIn, few-marks}
 use Rattle.ops.proofs.Rows.{Row, row-rule}
+use Rattle.ops.proofs.Fitting.{below-all, item-fits}
 use Rattle.ops.proofs.Meaning.{means}
 use Rattle.testing_device.proofs.Words.{byCase}
-use Rattle.machine_model.specs.State.{lanes}
 use Rattle.machine_model.specs.Scan.{opAt, marks, functions}
-use Rattle.machine_model.specs.Formed.{Each}
-use Rattle.machine_model.specs.Limited.{spanOf, span, Word, numbersOf, numbers, count, Limited}
+use Rattle.machine_model.specs.Limited.{count, Limited}
 use Rattle.machine_ops.specs.Found.{rowMark, rowFunction}
 use Rattle.machine_step.specs.Fine.{Fine}
 use Rattle.machine_step.specs.Decoded.{codeOf, givenOf}
@@ -180,81 +178,17 @@ module _ (s : List ℕ) where
   unfolding givenOf
   few-entered input room = rw (entered-are s (patchOf s .items) (items-are s), marks-counted (patchOf s .items)) (few-marks s)
 
-  -- an op spans no more than it counts
-  plain-span : (p : Plain) → spanOf p ≤ plainCount p
-  plain-span (comment bs) = omega arith
-  plain-span (store n) = omega arith
-  plain-span (move m) = omega arith
-  plain-span (swap n) = omega arith
-  plain-span locate = omega arith
-  plain-span (offset v n) = omega arith
-  plain-span deref = omega arith
-  plain-span refer = omega arith
-  plain-span (cell k n) = omega arith
-  plain-span (lane k n) = omega arith
-  plain-span (get m) = omega arith
-  plain-span (put m) = omega arith
-  plain-span peek = omega arith
-  plain-span poke = omega arith
-  plain-span alloc = omega arith
-  plain-span free = omega arith
-
-  span-count : (o : Op) → span o ≤ opCount o
-  span-count (control c) = omega arith
-  span-count (set k vs) = omega arith
-  span-count (load n) = omega arith
-  span-count (plain p) = plain-span p
-
   module _ (b : Bytes s) where
-    word-at : (i : ℕ) → Word (u64At s i)
-    word-at i =
-        omega (arith, b .at i, b .at (i + 1), b .at (i + 2), b .at (i + 2 + 1), b .at (i + 4), b .at (i + 4 + 1), b .at (i + 4 + 2), b .at (i + 4 + 2 + 1))
-
-    words-at : (p n : ℕ) → Each Word (valuesAt s p n)
-    unfolding valuesAt
-    words-at p zero = tt
-    words-at p (suc n) = (word-at p, words-at (p + 8) n)
-
-    plain-words : (p n : ℕ) (q : Plain) → Each Word (numbersOf (plainWith s p n q))
-    plain-words p n (comment bs) = tt
-    plain-words p n (store m) = tt
-    plain-words p n (move v) = (word-at p, tt)
-    plain-words p n (swap m) = tt
-    plain-words p n locate = tt
-    plain-words p n (offset v m) = (word-at p, tt)
-    plain-words p n deref = tt
-    plain-words p n refer = tt
-    plain-words p n (cell k m) = tt
-    plain-words p n (lane k m) = tt
-    plain-words p n (get m) = tt
-    plain-words p n (put m) = tt
-    plain-words p n peek = tt
-    plain-words p n poke = tt
-    plain-words p n alloc = tt
-    plain-words p n free = tt
-
-    op-words : (p n : ℕ) (o : Op) → Each Word (numbers (opWith s p n o))
-    op-words p n (control c) = tt
-    op-words p n (set k vs) = words-at p n
-    op-words p n (load m) = tt
-    op-words p n (plain q) = plain-words p n q
-
-    -- what holds of each item's op, and of a comment, holds of the op at any place
-    each-op : (P : Op → Type 0) (input : List ℕ) (room : ℕ) → P (plain (comment [])) → ((x : Item) → IsItem s x → P (file.opAt s x)) → (i : ℕ) → P (opAt (givenOf s input room .ops) i)
-    each-op P input room z f i =
+    -- an op at any place: an item's, or beyond the last a comment
+    fits-at : (input : List ℕ) (room i : ℕ) → Fits (opAt (givenOf s input room .ops) i)
+    fits-at input room i =
         byCase (leb (length (codeOf s .kinds)) i)
         (λ e. let l : length (givenOf s input room .ops) ≤ i = omega (arith, leb-true (length (codeOf s .kinds)) i e, rows s input room .many) in
-        subst P (sym (List·getD-eq-default (givenOf s input room .ops) (plain (comment [])) l)) z)
+        subst Fits (sym (List·getD-eq-default (givenOf s input room .ops) (plain (comment [])) l)) (omega arith, tt))
         (λ e. let l = leb-false (length (codeOf s .kinds)) i e in
-        subst P (sym (op-is-item s input room i l)) (f (itemOf s i) (is-item s i l)))
+        subst Fits (sym (op-is-item s input room i l)) (item-fits s (below-all s (b .at)) (itemOf s i) (is-item s i l)))
 
     -- the ops of a file are within the limits
     pub limited : (input : List ℕ) (room : ℕ) → Limited (givenOf s input room .ops)
-    unfolding file.opAt
     limited input room =
-        record {
-          few-ops = omega (arith, rows s input room .many, many-kinds s, few-items s);
-          few-marks = few-entered input room;
-          spans = each-op (λ o. span o ≤ lanes) input room (omega arith) (λ x h. omega (arith, span-count (file.opAt s x), means s x h .count, inside s x h .count));
-          words = each-op (λ o. Each Word (numbers o)) input room tt (λ x h. op-words (x .place) (x .count) (rowAt (x .kind)));
-        }
+        record { few-ops = omega (arith, rows s input room .many, many-kinds s, few-items s); few-marks = few-entered input room; each = fits-at input room }

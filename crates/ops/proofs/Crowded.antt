@@ -16,16 +16,16 @@ use Rattle.ops.specs.Op.Control.{function, end}
 use Rattle.ops.specs.Op.Op.{control}
 use Rattle.ops.specs.Patch.{stop, walk, patchOf, markOf, readOf, refusedAt}
 use Rattle.ops.specs.Ops.{opCount}
-use Rattle.ops.specs.Write.{payloadOf, encode, encodeAll, Fits, EachFits, markIn, marksIn}
+use Rattle.ops.specs.Write.{payloadOf, encode, encodeAll, Fits, Each, markIn, marksIn}
 use Rattle.ops.specs.declared.refusals.Refusal.{Refusal}
 use Rattle.ops.specs.declared.refusals.Refusal.the-variants.{TooManyOps, TooManyMarks}
 use Rattle.ops.proofs.Digits.{after}
 use Rattle.ops.proofs.Reading.{prepend, walk-full, walk-marks}
 use Rattle.ops.proofs.Encoded.{known}
-use Rattle.ops.proofs.Written.{length-encode, written}
-use Rattle.ops.proofs.RoundTrip.{encode-append, itemsOf, length-items, walk-part}
+use Rattle.ops.proofs.Written.{length-encode, encode-append, written}
+use Rattle.ops.proofs.RoundTrip.{itemsOf, length-items, walk-part}
 
-module _ (os : List Op) (o : Op) (more : List Op) (each : EachFits os) (fits : Fits o) (bytes : length (encodeAll (os ++ (o ∷ more))) ≤ 65536)
+module _ (os : List Op) (o : Op) (more : List Op) (each : Each Fits os) (fits : Fits o) (bytes : length (encodeAll (os ++ (o ∷ more))) ≤ 65536)
     (marks : marksIn os ≤ 256) (some : length os ≤ 4096) where
   abbrev file : List ℕ
   file = encodeAll (os ++ (o ∷ more))
@@ -73,7 +73,7 @@ module _ (os : List Op) (o : Op) (more : List Op) (each : EachFits os) (fits : F
 -- ---- the same op again and again
 
 module _ (o : Op) where
-  each-again : Fits o → (n : ℕ) → EachFits (replicate n o)
+  each-again : Fits o → (n : ℕ) → Each Fits (replicate n o)
   each-again f zero = tt
   each-again f (suc n) = (f, each-again f n)
 

@@ -3,7 +3,7 @@ use mathlib.Core.Path.{_≡_, refl, ap, sym, subst, _∙_}
 use Prim.Native.Nat.{ℕ, zero, suc, _+_, _^_, _<_, _≤_}
 use native.Mathlib.Omega.{arith}
 use mathlib.Core.Bool.{Bool, true, false, cond}
-use mathlib.Core.List.{List, [], _∷_, map}
+use mathlib.Core.List.{List, [], _∷_, _++_, map}
 use lib.Dec.{eqb, ltb}
 use lib.ListN.{length, getD, take, drop, length-map}
 use borrow.Author.Tests.{leb-true, eqb-true, ltb-false}
@@ -17,7 +17,7 @@ use Rattle.ops.specs.Ops.Patch.{ops, refused}
 use Rattle.ops.specs.Op.{Op, Plain}
 use Rattle.ops.specs.Op.Plain.{comment, store, move, swap, locate, offset, deref, refer, cell, lane, get, put, peek, poke, alloc, free}
 use Rattle.ops.specs.Op.Op.{control, set, load, plain}
-use Rattle.ops.specs.Write.{encodeAll, Below, Fits, EachFits, markIn, marksIn, AllFit}
+use Rattle.ops.specs.Write.{encodeAll, Below, Fits, Each, markIn, marksIn, AllFit}
 use Rattle.ops.specs.declared.refusals.Refusal.the-variants.{FileTooLong}
 use Rattle.ops.proofs.Encoded.{known}
 use Rattle.ops.proofs.Items as items
@@ -99,14 +99,14 @@ module _ (s : List ℕ) (w : Below 256 s) where
     op-fits (load m) f e = omega arith
     op-fits (plain q) f e = plain-fits q f e
 
-  item-fits : (i : Item) → IsItem s i → Fits (opAt s i)
+  pub item-fits : (i : Item) → IsItem s i → Fits (opAt s i)
   unfolding opAt
   item-fits i h =
       let t = tells s (h .first) (i .kind) (i .place) (h .len) (i .count) (h .next) (h .is) in
       let r = row-rule (i .kind) (t .small) (t .kept) in
       op-fits (i .place) (h .len) (i .count) (omega (arith, t .size, t .within)) (t .few) (rowAt (i .kind)) (rw (r .shaped) at (t .fits)) (rw (r .shaped) at (t .counts))
 
-  items-fit : (is : List Item) → Every (IsItem s) is → EachFits (map (opAt s) is)
+  items-fit : (is : List Item) → Every (IsItem s) is → Each Fits (map (opAt s) is)
   items-fit [] e = tt
   items-fit (i ∷ is) e = (item-fits i (e .0), items-fit is (e .1))
 
@@ -117,6 +117,10 @@ module _ (s : List ℕ) where
   items-marks : (is : List Item) → Every (IsItem s) is → marksIn (map (opAt s) is) ≡ items.marksIn is
   items-marks [] e = refl
   items-marks (i ∷ is) e = omega (arith, item-mark i (e .0), items-marks is (e .1))
+
+pub each-append : (P : Op → Type 0) (xs ys : List Op) → Each P xs → Each P ys → Each P (xs ++ ys)
+each-append P [] ys a b = b
+each-append P (x ∷ xs) ys a b = (a .0, each-append P xs ys (a .1) b)
 
 -- ---- the file
 
@@ -151,7 +155,7 @@ file-fit s w os e =
     let b : length (encodeAll os) ≡ length s = ap length (bytes-back s w os e) in
     let m = length-map (patchOf s .items) (opAt s) in
     record {
-      each = subst (λ (x : List Op). EachFits x) (g .1) (items-fit s w (patchOf s .items) (items-are s));
+      each = subst (Each Fits) (g .1) (items-fit s w (patchOf s .items) (items-are s));
       ops = omega (arith, ap length (g .1), m, few-items s);
       marks = few-marks-in s os e;
       bytes = omega arith;

@@ -9,6 +9,7 @@ pub mod Whole
 pub mod Reading
 pub mod Items
 pub mod Loaded
+pub mod Tested
 pub mod Rows
 pub mod Meaning
 pub mod Unique

@@ -1,7 +1,7 @@
 -- Ops that are written as a file and read again are the same ops. Assumes nothing.
 use mathlib.Core.Path.{_≡_, _∙_, refl, sym, ap, ap₂}
 use mathlib.Core.Bool.{false}
-use mathlib.Core.List.{List, [], _∷_, _++_, map, append-assoc, append-nil}
+use mathlib.Core.List.{List, [], _∷_, _++_, map, append-nil}
 use Prim.Native.Nat.{ℕ, suc, _+_, _-_, _<_, _≤_}
 use native.Mathlib.Nat.{add-zero, zero-add}
 use native.Mathlib.Omega.{arith}
@@ -13,7 +13,7 @@ use Rattle.ops.specs.Op.{Op, kindOf}
 use Rattle.ops.specs.Patch.{Item, Loaded, push, walk, patchOf, markOf}
 use Rattle.ops.specs.Ops.{opAt, opCount, opsOf}
 use Rattle.ops.specs.Ops.Patch.{ops}
-use Rattle.ops.specs.Write.{payloadOf, encode, encodeAll, EachFits, markIn, marksIn, AllFit}
+use Rattle.ops.specs.Write.{payloadOf, encode, encodeAll, Fits, Each, markIn, marksIn, AllFit}
 use Rattle.ops.proofs.Digits.{after}
 use Rattle.ops.proofs.Reading.{prepend, walk-end, walk-op}
 use Rattle.ops.proofs.Encoded.{known}
@@ -28,11 +28,6 @@ pub length-items : (os : List Op) (p : ℕ) → length (itemsOf os p) ≡ length
 length-items [] p = refl
 length-items (o ∷ os) p = ap suc (length-items os (p + 6 + length (payloadOf o)))
 
-pub encode-append : (xs ys : List Op) → encodeAll (xs ++ ys) ≡ encodeAll xs ++ encodeAll ys
-unfolding encodeAll
-encode-append [] ys = refl
-encode-append (x ∷ xs) ys = ap (λ (l : List ℕ). encode x ++ l) (encode-append xs ys) ∙ sym (append-assoc (encode x) (encodeAll xs) (encodeAll ys))
-
 abbrev good : List Item → Loaded
 good is = record { items = is; number = 0; place = 0 }
 
@@ -43,7 +38,7 @@ module _ (s : List ℕ) where
       ap (λ (k : ℕ). drop k s) (sym e) ∙ after s p (encode o) t d
 
   -- ops of the file are read, and the walk goes on behind them
-  pub walk-part : (os more : List Op) (left m p : ℕ) → EachFits os → m + marksIn os ≤ 256 → drop p s ≡ encodeAll (os ++ more)
+  pub walk-part : (os more : List Op) (left m p : ℕ) → Each Fits os → m + marksIn os ≤ 256 → drop p s ≡ encodeAll (os ++ more)
       → walk s (length os + left) m p ≡ prepend (itemsOf os p) (walk s left (m + marksIn os) (p + length (encodeAll os)))
   unfolding encodeAll
   walk-part [] more left m p f w d =
@@ -64,7 +59,7 @@ module _ (s : List ℕ) where
       ∙ ap (push (itemOf o p)) (walk-part os more left (m + markOf k) next (f .1) r (next-part o p (encodeAll (os ++ more)) d))
       ∙ ap₂ (λ (i j : ℕ). prepend (itemsOf (o ∷ os) p) (walk s left i j)) u v
 
-  all-back : (os : List Op) (p : ℕ) → EachFits os → drop p s ≡ encodeAll os → map (opAt s) (itemsOf os p) ≡ os
+  all-back : (os : List Op) (p : ℕ) → Each Fits os → drop p s ≡ encodeAll os → map (opAt s) (itemsOf os p) ≡ os
   unfolding encodeAll
   all-back [] p f d = refl
   all-back (o ∷ os) p f d =

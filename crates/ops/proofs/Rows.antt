@@ -1,12 +1,9 @@
 -- The table's columns, in 01's words of the ops: tested at each of the 62 rows by one computation. Assumes nothing.
-use mathlib.Core.Path.{_≡_, _∙_, subst, sym}
-use mathlib.Core.Bool.{Bool, true, false, cond, _||_}
-use mathlib.Core.List.{List, [], _∷_}
-use Prim.Native.Nat.{ℕ, zero, suc, _+_, _<_}
+use mathlib.Core.Path.{_≡_}
+use mathlib.Core.Bool.{Bool, true, false, cond, _&&_, _||_}
+use Prim.Native.Nat.{ℕ, _<_}
 use native.Mathlib.Omega.{arith}
-use native.Mathlib.Nat.{add-zero, zero-add, add-suc, suc-add, le-of-suc-le-suc, not-suc-le-zero}
 use lib.Dec.{T, leb, eqb, eqb→eq}
-use lib.ListN.{length, getD}
 use Rattle.ops.specs.Kinds.{kind, shape, need, after, kinds, kindAt, indexOf}
 use Rattle.ops.specs.Op.{Control, Plain, Op, kindOf}
 use Rattle.ops.specs.Op.Control.{function, call, ret, while, if, else, end}
@@ -14,6 +11,7 @@ use Rattle.ops.specs.Op.Plain.{comment, store, move, swap, locate, offse
 use Rattle.ops.specs.Op.Op.{control, set, load, plain}
 use Rattle.ops.specs.Ops.{rows, rowAt}
 use Rattle.ops.specs.declared.kinds.Kind.{Kind}
+use Rattle.ops.proofs.Tested.{and-left, and-right, at}
 
 -- "Function, Call, Return, While, If, Else, End .. need 1"; "Else, like Function and Return, needs no lane when run"
 abbrev pub controlRule : Control → ℕ
@@ -55,44 +53,15 @@ rule (plain p) = plainRule p
 abbrev pub isLeftOut : ℕ → Bool
 isLeftOut k = cond (leb 52 k) (leb k 58) false || eqb k 61
 
--- ---- a test over a list, had at each place of it
-
-abbrev both : Bool → Bool → Bool
-both true b = b
-both false b = false
-
-both-left : (a b : Bool) → T (both a b) → T a
-both-left true b t = tt
-both-left false b t = t
-
-both-right : (a b : Bool) → T (both a b) → T b
-both-right true b t = t
-both-right false b t = absurd t
-
-module _ {A : Type 0} (f : ℕ → A → Bool) (d : A) where
-  abbrev every : ℕ → List A → Bool
-  every i [] = true
-  every i (x ∷ xs) = both (f i x) (every (suc i) xs)
-
-  from : (xs : List A) (i : ℕ) → T (every i xs) → (k : ℕ) → k < length xs → T (f (i + k) (getD xs k d))
-  from [] i t k h = absurd (not-suc-le-zero h)
-  from (x ∷ xs) i t zero h = subst (λ (m : ℕ). T (f m x)) (sym (add-zero i)) (both-left (f i x) (every (suc i) xs) t)
-  from (x ∷ xs) i t (suc k) h =
-      subst (λ (m : ℕ). T (f m (getD xs k d))) (suc-add i k ∙ sym (add-suc i k))
-      (from xs (suc i) (both-right (f i x) (every (suc i) xs) t) k (le-of-suc-le-suc h))
-
-  at : (xs : List A) → T (every 0 xs) → (k : ℕ) → k < length xs → T (f k (getD xs k d))
-  at xs t k h = subst (λ (m : ℕ). T (f m (getD xs k d))) (zero-add k) (from xs 0 t k h)
-
 -- ---- the rows
 
 -- row k with entry x is left out, or has the number and the three columns of its op o
 abbrev agrees : ℕ → Op → Kind → Bool
 agrees k o x =
     cond (isLeftOut k) (eqb (shape x) 7)
-    (both (eqb (indexOf (kindOf o)) k)
-    (both (eqb (shape x) (shape (rule o)))
-    (both (eqb (need x) (need (rule o))) (eqb (after x) (after (rule o))))))
+    (eqb (indexOf (kindOf o)) k
+    && (eqb (shape x) (shape (rule o))
+    && (eqb (need x) (need (rule o)) && eqb (after x) (after (rule o)))))
 
 right : ℕ → Kind → Bool
 right k x = agrees k (rowAt k) x
@@ -113,9 +82,9 @@ clash false e t = absurd t
 
 row-of : (k : ℕ) (left : Bool) → eqb (shape (kindAt k)) 7 ≡ false
     → T (cond left (eqb (shape (kindAt k)) 7)
-    (both (eqb (indexOf (kindOf (rowAt k))) k)
-    (both (eqb (shape (kindAt k)) (shape (rule (rowAt k))))
-    (both (eqb (need (kindAt k)) (need (rule (rowAt k)))) (eqb (after (kindAt k)) (after (rule (rowAt k))))))))
+    (eqb (indexOf (kindOf (rowAt k))) k
+    && (eqb (shape (kindAt k)) (shape (rule (rowAt k)))
+    && (eqb (need (kindAt k)) (need (rule (rowAt k))) && eqb (after (kindAt k)) (after (rule (rowAt k)))))))
     → Row k
 row-of k true l t = clash (eqb (shape (kindAt k)) 7) l t
 row-of k false l t =
@@ -123,13 +92,13 @@ row-of k false l t =
     let b = eqb (shape (kindAt k)) (shape (rule (rowAt k))) in
     let c = eqb (need (kindAt k)) (need (rule (rowAt k))) in
     let d = eqb (after (kindAt k)) (after (rule (rowAt k))) in
-    let t₁ : T (both b (both c d)) = both-right a (both b (both c d)) t in
-    let t₂ : T (both c d) = both-right b (both c d) t₁ in
+    let t₁ : T (b && (c && d)) = and-right a (b && (c && d)) t in
+    let t₂ : T (c && d) = and-right b (c && d) t₁ in
     record {
-      number = eqb→eq (indexOf (kindOf (rowAt k))) k (both-left a (both b (both c d)) t);
-      shaped = eqb→eq (shape (kindAt k)) (shape (rule (rowAt k))) (both-left b (both c d) t₁);
-      needed = eqb→eq (need (kindAt k)) (need (rule (rowAt k))) (both-left c d t₂);
-      known = eqb→eq (after (kindAt k)) (after (rule (rowAt k))) (both-right c d t₂);
+      number = eqb→eq (indexOf (kindOf (rowAt k))) k (and-left a (b && (c && d)) t);
+      shaped = eqb→eq (shape (kindAt k)) (shape (rule (rowAt k))) (and-left b (c && d) t₁);
+      needed = eqb→eq (need (kindAt k)) (need (rule (rowAt k))) (and-left c d t₂);
+      known = eqb→eq (after (kindAt k)) (after (rule (rowAt k))) (and-right c d t₂);
     }
 
 -- each row that is not left out has its op's number and columns

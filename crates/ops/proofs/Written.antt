@@ -1,7 +1,7 @@
 -- A record that is written is read as its op. Assumes nothing.
 use mathlib.Core.Path.{_≡_, _∙_, refl, sym, ap}
 use mathlib.Core.Bool.{false}
-use mathlib.Core.List.{List, _++_, append-assoc}
+use mathlib.Core.List.{List, [], _∷_, _++_, append-assoc}
 use Prim.Native.Nat.{ℕ, _+_, _-_, _%_, _<_, _≤_}
 use native.Mathlib.Omega.{arith}
 use borrow.Author.Tests.{le-ltb, leb-false}
@@ -15,7 +15,7 @@ use Rattle.ops.specs.declared.records.Record.the-variants.{Whole}
 use Rattle.ops.specs.Op.{Op, kindOf}
 use Rattle.ops.specs.Patch.{Item, item}
 use Rattle.ops.specs.Ops.{opAt, opCount}
-use Rattle.ops.specs.Write.{le16, le32, recordOf, placed, payloadOf, encode, Fits}
+use Rattle.ops.specs.Write.{le16, le32, recordOf, placed, payloadOf, encode, encodeAll, Fits}
 use Rattle.ops.proofs.Rows.{rule}
 use Rattle.ops.proofs.Digits.{after, at16, at32}
 use Rattle.ops.proofs.Encoded.{known, Reads, payload-reads}
@@ -27,6 +27,11 @@ itemOf o p = item (indexOf (kindOf o)) (opCount o) (p + 6)
 pub length-encode : (o : Op) → length (encode o) ≡ 6 + length (payloadOf o)
 unfolding encode recordOf le32 le16
 length-encode o = omega arith
+
+pub encode-append : (xs ys : List Op) → encodeAll (xs ++ ys) ≡ encodeAll xs ++ encodeAll ys
+unfolding encodeAll
+encode-append [] ys = refl
+encode-append (x ∷ xs) ys = ap (λ (l : List ℕ). encode x ++ l) (encode-append xs ys) ∙ sym (append-assoc (encode x) (encodeAll xs) (encodeAll ys))
 
 -- the record's three parts, where they stand
 module _ (o : Op) (s : List ℕ) (p : ℕ) (t : List ℕ) (d : drop p s ≡ encode o ++ t) where

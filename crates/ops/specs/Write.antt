@@ -127,9 +127,10 @@ Fits (set k vs) = (length vs ≤ 1024) × Below (2 ^ 64) vs
 Fits (load n) = n ≤ 1024
 Fits (plain p) = PlainFits p
 
-abbrev pub EachFits : List Op → Type 0
-EachFits [] = Unit {0}
-EachFits (o ∷ os) = Fits o × EachFits os
+-- a property of each op
+abbrev pub Each : (Op → Type 0) → List Op → Type 0
+Each P [] = Unit {0}
+Each P (o ∷ os) = P o × Each P os
 
 -- the Function marks among ops
 abbrev pub markIn : Op → ℕ
@@ -141,7 +142,7 @@ marksIn (o ∷ os) = markIn o + marksIn os
 
 -- "file 65,536 bytes; 4,096 ops; 256 Function marks; 1,024 lanes"
 pub record AllFit (os : List Op) : Type 0 where
-  pub each : EachFits os
+  pub each : Each Fits os
   pub ops : length os ≤ 4096
   pub marks : marksIn os ≤ 256
   pub bytes : length (encodeAll os) ≤ 65536

@@ -24,7 +24,7 @@ pub fn copy_bytes(out: &mut [u8], at: usize, bytes: &[u8], from: usize, n: usize
     }
 }
 
-pub fn put_u16(out: &mut [u8], at: usize, n: usize)
+fn put_u16(out: &mut [u8], at: usize, n: usize)
     requires { ⌜ at + 2 ≤ length (now out) ⌝ }
     ensures { λ _. ⌜ now (out .exit) ≡ placed (now (out .entry)) at (le16 n) ⌝ }
 {
@@ -58,7 +58,7 @@ pub fn has_room(size: usize, at: usize, len: usize) -> bool
 }
 
 // The record of a kind's number and its payload, where it has room; the byte after it.
-pub fn place_record(out: &mut [u8], at: usize, kind: u16, payload: &[u8]) -> usize
+fn place_record(out: &mut [u8], at: usize, kind: u16, payload: &[u8]) -> usize
     requires { ⌜ (at + 6 + length (now payload) ≤ length (now out)) × (at + 6 + length (now payload) ≤ 65536) ⌝ }
     ensures { λ r. ⌜ (r ≡ at + 6 + length (now (payload .entry))) × (now (out .exit) ≡ placed (now (out .entry)) at (recordOf kind (now (payload .entry)))) ⌝ }
 {

@@ -1,12 +1,10 @@
 -- The check by rows and counts is the check of the ops that the rows and counts stand for. Assumes nothing.
 use Prim.Native.Nat.{ℕ, zero, suc, _+_, _-_, _<_}
-use native.Mathlib.Nat.{not-suc-le-zero}
 use native.Mathlib.Omega.{arith}
 use borrow.Author.Tests.{le-ltb, ne-eqb}
 use mathlib.Core.Path.{_≡_, refl, ap, sym, _∙_, subst}
-use mathlib.Core.Bool.{Bool, true, false, cond, _&&_}
+use mathlib.Core.Bool.{Bool, cond, _&&_}
 use mathlib.Core.List.{List, [], _∷_, map}
-use native.Mathlib.Decide.{decLt}
 use lib.Dec.{T, ltb, eqb, eqb→eq}
 use Rattle.ops.specs.Op.{Op, Control, Plain, Mark, mark}
 use Rattle.ops.specs.Op.Mark.{up, down, mid, flat}
@@ -18,6 +16,7 @@ use Rattle.ops.specs.Patch.{Item, kindIn, countIn}
 use Rattle.ops.specs.Ops.{rows, rowAt, plainWith, opWith, opAt, plainCount, opCount}
 use Rattle.ops.proofs.Whole.{Tells, tells}
 use Rattle.ops.proofs.Items.{IsItem, Every}
+use Rattle.ops.proofs.Tested.{and-left, and-right, at}
 use Rattle.ops.proofs.Rows.{controlRule, plainRule, rule, Row, row-rule}
 use Rattle.ops.proofs.Meaning.{means}
 use Rattle.patch_check.specs.Rules.{opens, closes, asks, leaves}
@@ -34,43 +33,24 @@ elses down = 0
 elses mid = 1
 elses flat = 0
 
-agrees : ℕ → Bool
-agrees k =
-    eqb (opensOf k) (opens (mark (rowAt k) ∷ [])) && (eqb (endsOf k) (closes (mark (rowAt k) ∷ [])) && eqb (elsesOf k) (elses (mark (rowAt k))))
-
-abbrev all-below : ℕ → Bool
-all-below zero = true
-all-below (suc n) = agrees n && all-below n
-
-and-left : (a b : Bool) → T (a && b) → T a
-and-left true b t = tt
-and-left false b t = t
-
-and-right : (a b : Bool) → T (a && b) → T b
-and-right true b t = t
-and-right false b t = absurd t
-
-at-below : (n : ℕ) → T (all-below n) → (k : ℕ) → k < n → T (agrees k)
-at-below zero t k h = absurd (not-suc-le-zero h)
-at-below (suc n) t k h = by (at-below n (and-right (agrees n) (all-below n) t) k) (decLt k n)
-  where
-    by : (k < n → T (agrees k)) → Dec (k < n) → T (agrees k)
-    by below (yes l) = below l
-    by below (no l) = let e : n ≡ k = omega arith in subst (λ (j : ℕ). T (agrees j)) e (and-left (agrees n) (all-below n) t)
+-- row k is seen as its op o is
+agrees : ℕ → Op → Bool
+agrees k o =
+    eqb (opensOf k) (opens (mark o ∷ [])) && (eqb (endsOf k) (closes (mark o ∷ [])) && eqb (elsesOf k) (elses (mark o)))
 
 record Bracket (k : ℕ) (m : Mark) : Type 0 where
   opening : opensOf k ≡ opens (m ∷ [])
   closing : endsOf k ≡ closes (m ∷ [])
   dividing : elsesOf k ≡ elses m
 
-all-agree : T (all-below 62)
+all-agree : (k : ℕ) → k < 62 → T (agrees k (rowAt k))
 unfolding agrees opensOf endsOf elsesOf rowAt rows
-all-agree = tt
+all-agree k h = at agrees (plain free) rows tt k h
 
 row-bracket : (k : ℕ) → k < 62 → Bracket k (mark (rowAt k))
 unfolding agrees
 row-bracket k h =
-    let t = at-below 62 all-agree k h in
+    let t = all-agree k h in
     let a = eqb (opensOf k) (opens (mark (rowAt k) ∷ [])) in
     let b = eqb (endsOf k) (closes (mark (rowAt k) ∷ [])) in
     let c = eqb (elsesOf k) (elses (mark (rowAt k))) in

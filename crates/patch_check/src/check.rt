@@ -33,7 +33,7 @@ pub fn from_of(depth: usize, from: usize, i: usize) -> usize
 }
 
 // The ops of a patch, by the rows of their kinds and what they count.
-pub fn check_ops(kinds: &[u8], counts: &[u16]) -> Verdict
+fn check_ops(kinds: &[u8], counts: &[u16]) -> Verdict
     requires { ⌜ (length (now kinds) ≤ 4096) × (length (now counts) ≡ length (now kinds)) ⌝ }
     ensures { λ r. ⌜ r ≡ rowScan 0 0 lanes 0 (now (kinds .entry)) (now (counts .entry)) ⌝ }
 {
