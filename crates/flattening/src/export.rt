@@ -18,7 +18,7 @@ pub struct Report {
     pub bodies: usize,
 }
 
-pub fn report_of(answer: Flattened) -> Report
+fn report_of(answer: Flattened) -> Report
     ensures { λ r. ⌜ r ≡ reportOf answer ⌝ }
 {
     Report {

@@ -8,6 +8,7 @@ use crate::answer::Body;
 use crate::answer::Flattened;
 use crate::answer::bodies_of;
 use crate::numbers::flatten_numbers;
+use ops::limits::MARKS;
 
 // The answer, how many entries there are, and their numbers, first ops and op counts.
 pub struct Columns {
@@ -19,17 +20,17 @@ pub struct Columns {
 }
 
 // The room that counts: a patch has at most 256 marks.
-pub fn room_of(n: usize) -> usize
+fn room_of(n: usize) -> usize
     ensures { λ r. ⌜ (r ≡ roomOf n) × (r ≤ 256) ⌝ }
 {
-    if n < 256 {
+    if n < MARKS {
         return n;
     }
-    256
+    MARKS
 }
 
-// The work: a list has room for this many entries.
-pub fn flatten_columns(bytes: &[u8], out: &mut [u8], room: usize) -> Columns
+// The work, for a list with room for this many entries.
+fn flatten_columns(bytes: &[u8], out: &mut [u8], room: usize) -> Columns
     ensures { λ r. ⌜ (outcome (r .answer) (now (out .exit)) (take (roomOf room) (r .numbers)) (take (roomOf room) (r .firsts)) (take (roomOf room) (r .counts)) ≡ flattenOf (now (bytes .entry)) (now (out .entry)) (replicate (roomOf room) 0) (replicate (roomOf room) 0) (replicate (roomOf room) 0)) × (r .rows ≡ bodiesOf (r .answer)) ⌝ }
 {
     let mut numbers = [0u32; 256];
@@ -53,7 +54,7 @@ pub fn flatten_columns(bytes: &[u8], out: &mut [u8], room: usize) -> Columns
     }
 }
 
-pub fn body_at(columns: Columns, i: usize) -> Body
+fn body_at(columns: Columns, i: usize) -> Body
     requires { ⌜ i < 256 ⌝ }
     ensures { λ r. ⌜ r ≡ entryAt columns i ⌝ }
 {
@@ -64,20 +65,20 @@ pub fn body_at(columns: Columns, i: usize) -> Body
     }
 }
 
-pub fn rows_of(columns: Columns) -> usize
+fn rows_of(columns: Columns) -> usize
     ensures { λ r. ⌜ r ≡ columns .rows ⌝ }
 {
     columns.rows
 }
 
-pub fn answer_of(columns: Columns) -> Flattened
+fn answer_of(columns: Columns) -> Flattened
     ensures { λ r. ⌜ r ≡ columns .answer ⌝ }
 {
     columns.answer
 }
 
 // By hand: the first n entries, to the list.
-pub fn write_entries<'a>(bodies: &'a mut [Body], columns: Columns, n: usize)
+fn write_entries<'a>(bodies: &'a mut [Body], columns: Columns, n: usize)
     requires { ⌜ (n ≤ length (now bodies)) × (n ≤ 256) ⌝ }
     ensures { λ _. ⌜ now (bodies .exit) ≡ over (entriesIn columns n) (now (bodies .entry)) ⌝ }
 {
