@@ -38,8 +38,7 @@ pub extern "C" fn feltcairn_read(bytes: &[u8], answer: &mut [u64]) -> usize
 
 // The check: number and place.
 #[no_mangle]
-pub extern "C" fn feltcairn_check(bytes: &[u8], answer: &mut [u64]) -> usize
-{
+pub extern "C" fn feltcairn_check(bytes: &[u8], answer: &mut [u64]) -> usize {
     let v = patch_check::check::check(bytes);
     let number = patch_check::verdict::number_of(v);
     let place = patch_check::verdict::place_of(v);
@@ -60,27 +59,32 @@ pub extern "C" fn feltcairn_run_fresh(
     output: &mut [u64],
     budget: u32,
     answer: &mut [u64],
-) -> usize
-{
-    let r = Machine::run_fresh(
-        bytes, register, tape, table, channel, input, output, budget,
-    );
+) -> usize {
+    let r = Machine::run_fresh(bytes, register, tape, table, channel, input, output, budget);
     let a = r.answer;
     let h = r.machine.place;
     let number = machine::machine::number_of(a);
     let place = machine::machine::place_of(a, h.position);
-    let told = [number as u64, place as u64, r.steps as u64, h.written as u64];
+    let told = [
+        number as u64,
+        place as u64,
+        r.steps as u64,
+        h.written as u64,
+    ];
     tell(answer, &told);
     number
 }
 
 // Joining: number, place, and the bytes written.
 #[no_mangle]
-pub extern "C" fn feltcairn_join(bytes: &[u8], out: &mut [u8], answer: &mut [u64]) -> usize
-{
+pub extern "C" fn feltcairn_join(bytes: &[u8], out: &mut [u8], answer: &mut [u64]) -> usize {
     let r = joining::join::join(bytes, out);
     let number = joined_number(r);
-    let told = [number as u64, joined_place(r) as u64, joined_bytes(r) as u64];
+    let told = [
+        number as u64,
+        joined_place(r) as u64,
+        joined_bytes(r) as u64,
+    ];
     tell(answer, &told);
     number
 }
@@ -111,19 +115,33 @@ fn joined_bytes(r: Joined) -> usize {
 
 fn flattened_bytes(r: Flattened) -> usize {
     match r {
-        Flattened::BadFile { number: _, place: _ } => 0,
+        Flattened::BadFile {
+            number: _,
+            place: _,
+        } => 0,
         Flattened::NoOpenEnd { op: _ } => 0,
         Flattened::NoRoom => 0,
-        Flattened::Written { ops: _, bytes, bodies: _ } => bytes,
+        Flattened::Written {
+            ops: _,
+            bytes,
+            bodies: _,
+        } => bytes,
     }
 }
 
 fn flattened_bodies(r: Flattened) -> usize {
     match r {
-        Flattened::BadFile { number: _, place: _ } => 0,
+        Flattened::BadFile {
+            number: _,
+            place: _,
+        } => 0,
         Flattened::NoOpenEnd { op: _ } => 0,
         Flattened::NoRoom => 0,
-        Flattened::Written { ops: _, bytes: _, bodies } => bodies,
+        Flattened::Written {
+            ops: _,
+            bytes: _,
+            bodies,
+        } => bodies,
     }
 }
 
@@ -136,8 +154,7 @@ pub extern "C" fn feltcairn_flatten_numbers(
     firsts: &mut [u32],
     counts: &mut [u32],
     answer: &mut [u64],
-) -> usize
-{
+) -> usize {
     let r = flattening::flatten::flatten(bytes, out, numbers, firsts, counts);
     let number = flattening::answer::number_of(r);
     let place = flattening::answer::place_of(r);
