@@ -6,7 +6,7 @@ use native.Mathlib.Omega.{arith}
 use borrow.Author.Tests.{eqb-true, eqb-false}
 use lib.Dec.{eqb}
 use Rattle.machine_ops.specs.Place.{pick}
-use Rattle.machine_step.specs.Family.{familyOf}
+use Rattle.machine_step.specs.Family.{familyOf, among, controlRows, cellRows, laneRows, deviceRows}
 
 -- a test whose first answer is another family's
 past : (b : Bool) (x y : ℕ) → eqb x 5 ≡ false → pick b x y ≡ 5 → y ≡ 5
@@ -27,5 +27,6 @@ pub offset-row : (k : ℕ) → familyOf k ≡ 5 → k ≡ 16
 unfolding familyOf pick
 offset-row k e =
     eqb-true k 16
-    (found (eqb k 16) _ (past _ 4 _ refl (past _ 3 _ refl (past _ 2 _ refl (past _ 1 _ refl e))))
+    (found (eqb k 16) _
+    (past (among k deviceRows) 4 _ refl (past (among k laneRows) 3 _ refl (past (among k cellRows) 2 _ refl (past (among k controlRows) 1 _ refl e))))
     (λ f. none-left (past (eqb k 36) 6 _ refl f)))
