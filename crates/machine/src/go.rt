@@ -42,6 +42,8 @@ pub fn go(
     requires { ⌜ Going (now bytes) (now input) (code (now kinds) (now counts) (now needs) (now places) (now bytes)) (lent m (now register) (now tape) (now table) (now channel) (now output)) ⌝ }
     ensures { λ r. ⌜ ranTo r (now (register .exit)) (now (tape .exit)) (now (table .exit)) (now (channel .exit)) (now (output .exit)) ≡ runOf budget 0 (code (now (kinds .entry)) (now (counts .entry)) (now (needs .entry)) (now (places .entry)) (now (bytes .entry))) (now (input .entry)) (lent m (now (register .entry)) (now (tape .entry)) (now (table .entry)) (now (channel .entry)) (now (output .entry))) ⌝ }
 {
+    let mut partners = [0u16; 4096];
+    machine_ops::scan::find_partners(kinds, &mut partners);
     let mut calls = m.calls;
     let mut refs = m.refs;
     let mut h = m.place;
@@ -75,6 +77,7 @@ pub fn go(
             counts,
             needs,
             places,
+            &partners,
             bytes,
             &mut calls,
             &mut refs,
@@ -129,12 +132,15 @@ pub fn once(
             machine: m,
         };
     }
+    let mut partners = [0u16; 4096];
+    machine_ops::scan::find_partners(kinds, &mut partners);
     let out = machine_step::step::step(
         h,
         kinds,
         counts,
         needs,
         places,
+        &partners,
         bytes,
         &mut calls,
         &mut refs,
