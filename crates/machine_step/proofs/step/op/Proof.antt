@@ -4,13 +4,21 @@ use Rattle.machine_step.specs.Step.{opOf}
 use Rattle.machine_ops.specs.Place.{pick}
 use borrow.Author.Tests.{ne-eqb}
 use mathlib.Core.Path.{_∙_, refl, sym}
+use native.Mathlib.Omega.{arith}
 use borrow.Author.Needs.{needs}
+use Rattle.machine_ops.proofs.Partners.{of-function, of-while, of-if, of-else, of-end}
 use Rattle.machine_step.proofs.step.op.Statement.{statement}
 use Rattle.machine_step.proofs.step.op.Tie as tie
 
+control-requires : tie.Need-control-requires
+control-requires c κs =
+    let p = c .before .before .before .before .before .before .before .before .before .before .before .before .before .before .before .before .pre in
+    let w = c .before .before .before .wide .ensures .0 in
+    (search needs, search needs, search needs, search needs, search needs, search needs, search needs, (λ e. w ∙ of-function _ _ (p .19) _ (p .0) (sym (p .18) ∙ e)), (λ e. w ∙ of-while _ _ (p .19) _ (p .0) (sym (p .18) ∙ e)), (λ e. w ∙ of-if _ _ (p .19) _ (p .0) (sym (p .18) ∙ e)), (λ e. w ∙ of-else _ _ (p .19) _ (p .0) (sym (p .18) ∙ e)), (λ e. w ∙ of-end _ _ (p .19) _ (p .0) (sym (p .18) ∙ e)))
+
 returns : tie.Need-returns
 unfolding opOf pick
-returns c = rw (← c .before .before .before .before .before .before .before .family-of .ensures, c .before .before .before .before .before .before .match .keys1, ← c .before .before .control .ensures) refl
+returns c = rw (← c .before .before .before .before .before .before .before .before .before .family-of .ensures, c .before .before .before .before .before .before .before .before .match .keys1, ← c .before .before .control .ensures) refl
 
 returns-2 : tie.Need-returns-2
 unfolding opOf pick
@@ -41,16 +49,19 @@ op-spec =
     tie.close
     (tie.spec
     (λ c κs. search needs)
+    (λ c. omega (arith, c .before .before .before .before .before .before .before .before .before .before .before .pre .0, c .before .before .before .before .before .before .before .before .before .before .before .pre .19 .many))
+    (λ c. omega (arith, c .before .before .before .before .before .before .before .before .before .before .before .before .pre .0, c .before .before .before .before .before .before .before .before .before .before .before .before .pre .19 .many))
+    (λ c κs. search needs)
+    control-requires
     (λ c κs. search needs)
     (λ c κs. search needs)
     (λ c κs. search needs)
     (λ c κs. search needs)
     (λ c κs. search needs)
+    (λ c κs. c .before .before .before .before .before .before .before .before .before .before .before .pre .15 (offset-row _ (sym (c .before .family-of .ensures) ∙ c .match .keys5)))
     (λ c κs. search needs)
-    (λ c κs. c .before .before .before .before .before .before .before .before .before .before .pre .15 (offset-row _ (sym (c .before .family-of .ensures) ∙ c .match .keys5)))
     (λ c κs. search needs)
-    (λ c κs. search needs)
-    (λ c κs. (search needs, search needs, search needs, search needs, search needs, search needs, search needs, c .before .before .before .before .before .before .before .before .before .before .before .before .before .pre .12, c .before .before .before .before .before .before .before .before .before .before .before .before .before .pre .13, c .before .before .before .before .before .before .before .before .before .before .before .before .before .pre .14))
+    (λ c κs. (search needs, search needs, search needs, search needs, search needs, search needs, search needs, c .before .before .before .before .before .before .before .before .before .before .before .before .before .before .pre .12, c .before .before .before .before .before .before .before .before .before .before .before .before .before .before .pre .13, c .before .before .before .before .before .before .before .before .before .before .before .before .before .before .pre .14))
     (λ c. search needs)
     (λ c. search needs)
     returns
