@@ -1,5 +1,7 @@
 -- Which rule each op has for a lane, and a rule over the first n lanes. Assumes nothing.
 use Prim.Native.Nat.{ℕ, zero, suc}
+use mathlib.Core.Bool.{cond}
+use lib.Dec.{eqb}
 use mathlib.Core.List.{List, [], _∷_}
 use Rattle.lanes.specs.declared.lane.CellOp.{CellOp}
 use Rattle.lanes.specs.declared.lane.CellOp.the-variants.{Index, BitwiseNand, BitwiseAnd, BitwiseOr, BitwiseXor, LeftShift, LogicalRightShift, ArithmeticRightShift, And, Or, Add, Sub, Mul, Div, Rem, FloatAdd, FloatSub, FloatMul, FloatDiv, FloatRem}
@@ -8,6 +10,20 @@ use Rattle.lanes.specs.declared.lane.LaneOp.the-variants.{BitwiseNot, No
 use lib.Ieee as ieee
 use Rattle.lanes.specs.Int.{bitwise, intAdd, intSub, intMul, intNeg, intInc, intDec, intDiv, intRem, intShl, intShr, intSar, bitAnd, bitNand, bitOr, bitXor, bitNot, boolAnd, boolOr, boolNot, intGez}
 use Rattle.lanes.specs.Float.{floatAdd, floatSub, floatMul, floatDiv, floatRem, floatNeg, floatGez, toInt, toFloat}
+
+-- the op with a number, counted from 0; the last from there on
+unfoldable pub cellNumbered : ℕ → CellOp
+cellNumbered k =
+    cond (eqb k 0) Index (cond (eqb k 1) BitwiseNand (cond (eqb k 2) BitwiseAnd (cond (eqb k 3) BitwiseOr (cond (eqb k 4) BitwiseXor
+    (cond (eqb k 5) LeftShift (cond (eqb k 6) LogicalRightShift (cond (eqb k 7) ArithmeticRightShift (cond (eqb k 8) And
+    (cond (eqb k 9) Or (cond (eqb k 10) Add (cond (eqb k 11) Sub (cond (eqb k 12) Mul (cond (eqb k 13) Div (cond (eqb k 14) Rem
+    (cond (eqb k 15) FloatAdd (cond (eqb k 16) FloatSub (cond (eqb k 17) FloatMul
+    (cond (eqb k 18) FloatDiv (FloatRem)))))))))))))))))))
+
+unfoldable pub laneNumbered : ℕ → LaneOp
+laneNumbered k =
+    cond (eqb k 0) BitwiseNot (cond (eqb k 1) Not (cond (eqb k 2) Neg (cond (eqb k 3) Inc (cond (eqb k 4) Dec
+    (cond (eqb k 5) IsNonNegative (cond (eqb k 6) ToInt (cond (eqb k 7) ToFloat (cond (eqb k 8) FloatNeg (FloatIsNonNegative)))))))))
 
 -- the lane a with the cell b beside it
 unfoldable pub cellRule : CellOp → ℕ → ℕ → ℕ

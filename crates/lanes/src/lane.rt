@@ -1,6 +1,6 @@
 // The lane ops, by what they look at, in the order of the kinds, and the rule of each on one lane.
 ghost use mathlib.Core.Path.{_≡_};
-ghost use Rattle.lanes.specs.Lane.{cellRule, laneRule};
+ghost use Rattle.lanes.specs.Lane.{cellNumbered, laneNumbered, cellRule, laneRule};
 use crate::float::float_add;
 use crate::float::float_div;
 use crate::float::float_gez;
@@ -68,6 +68,51 @@ pub enum LaneOp {
     ToFloat,
     FloatNeg,
     FloatIsNonNegative,
+}
+
+// The op with a number, counted from 0 in the order above: the loops take it as a number, which a caller that names it hands over in place.
+pub fn cell_numbered(number: u8) -> CellOp
+    ensures { λ r. ⌜ r ≡ cellNumbered number ⌝ }
+{
+    match number {
+        0 => CellOp::Index,
+        1 => CellOp::BitwiseNand,
+        2 => CellOp::BitwiseAnd,
+        3 => CellOp::BitwiseOr,
+        4 => CellOp::BitwiseXor,
+        5 => CellOp::LeftShift,
+        6 => CellOp::LogicalRightShift,
+        7 => CellOp::ArithmeticRightShift,
+        8 => CellOp::And,
+        9 => CellOp::Or,
+        10 => CellOp::Add,
+        11 => CellOp::Sub,
+        12 => CellOp::Mul,
+        13 => CellOp::Div,
+        14 => CellOp::Rem,
+        15 => CellOp::FloatAdd,
+        16 => CellOp::FloatSub,
+        17 => CellOp::FloatMul,
+        18 => CellOp::FloatDiv,
+        _ => CellOp::FloatRem,
+    }
+}
+
+pub fn lane_numbered(number: u8) -> LaneOp
+    ensures { λ r. ⌜ r ≡ laneNumbered number ⌝ }
+{
+    match number {
+        0 => LaneOp::BitwiseNot,
+        1 => LaneOp::Not,
+        2 => LaneOp::Neg,
+        3 => LaneOp::Inc,
+        4 => LaneOp::Dec,
+        5 => LaneOp::IsNonNegative,
+        6 => LaneOp::ToInt,
+        7 => LaneOp::ToFloat,
+        8 => LaneOp::FloatNeg,
+        _ => LaneOp::FloatIsNonNegative,
+    }
 }
 
 // The lane a by an op with the cell b beside it.

@@ -1,22 +1,25 @@
-// The lane loops over lent slices. Each leaves what lies beyond the first n lanes as it was. The two loops over an op are called with a constant op
+// The lane loops over lent slices. Each leaves what lies beyond the first n lanes as it was. The two loops over an op are called with a constant number
 // from a match outside them, so that nothing is dispatched at each lane.
 ghost use mathlib.Core.Path.{_≡_};
 ghost use Prim.Native.Nat.{_≤_};
 ghost use lib.ListN.{length};
 ghost use Rattle.lanes.specs.Int.{intAdd};
-ghost use Rattle.lanes.specs.Lane.{cellRule, laneRule, zipTo, mapTo, beside};
+ghost use Rattle.lanes.specs.Lane.{cellNumbered, laneNumbered, cellRule, laneRule, zipTo, mapTo, beside};
 use crate::int::int_offset;
 use crate::lane::CellOp;
 use crate::lane::LaneOp;
+use crate::lane::cell_numbered;
 use crate::lane::cell_rule;
+use crate::lane::lane_numbered;
 use crate::lane::lane_rule;
 
 // Each of the first n lanes by an op with the cell beside it.
-fn zip_lanes(op: CellOp, register: &mut [u64], cells: &[u64], n: usize)
+fn zip_lanes(number: u8, register: &mut [u64], cells: &[u64], n: usize)
     requires { ⌜ n ≤ length (now register) ⌝ }
     requires { ⌜ n ≤ length (now cells) ⌝ }
-    ensures { λ _. ⌜ now (register .exit) ≡ zipTo (cellRule op) n (now (register .entry)) (now (cells .entry)) ⌝ }
+    ensures { λ _. ⌜ now (register .exit) ≡ zipTo (cellRule (cellNumbered number)) n (now (register .entry)) (now (cells .entry)) ⌝ }
 {
+    let op = cell_numbered(number);
     let mut lane = 0;
     while lane < n {
         register[lane] = cell_rule(op, register[lane], cells[lane]);
@@ -25,10 +28,11 @@ fn zip_lanes(op: CellOp, register: &mut [u64], cells: &[u64], n: usize)
 }
 
 // Each of the first n lanes by an op alone.
-fn map_lanes(op: LaneOp, register: &mut [u64], n: usize)
+fn map_lanes(number: u8, register: &mut [u64], n: usize)
     requires { ⌜ n ≤ length (now register) ⌝ }
-    ensures { λ _. ⌜ now (register .exit) ≡ mapTo (laneRule op) n (now (register .entry)) ⌝ }
+    ensures { λ _. ⌜ now (register .exit) ≡ mapTo (laneRule (laneNumbered number)) n (now (register .entry)) ⌝ }
 {
+    let op = lane_numbered(number);
     let mut i = 0;
     while i < n {
         register[i] = lane_rule(op, register[i]);
@@ -43,26 +47,26 @@ pub fn cell_lanes(op: CellOp, register: &mut [u64], cells: &[u64], n: usize)
     ensures { λ _. ⌜ now (register .exit) ≡ zipTo (cellRule op) n (now (register .entry)) (now (cells .entry)) ⌝ }
 {
     match op {
-        CellOp::Index => zip_lanes(CellOp::Index, register, cells, n),
-        CellOp::BitwiseNand => zip_lanes(CellOp::BitwiseNand, register, cells, n),
-        CellOp::BitwiseAnd => zip_lanes(CellOp::BitwiseAnd, register, cells, n),
-        CellOp::BitwiseOr => zip_lanes(CellOp::BitwiseOr, register, cells, n),
-        CellOp::BitwiseXor => zip_lanes(CellOp::BitwiseXor, register, cells, n),
-        CellOp::LeftShift => zip_lanes(CellOp::LeftShift, register, cells, n),
-        CellOp::LogicalRightShift => zip_lanes(CellOp::LogicalRightShift, register, cells, n),
-        CellOp::ArithmeticRightShift => zip_lanes(CellOp::ArithmeticRightShift, register, cells, n),
-        CellOp::And => zip_lanes(CellOp::And, register, cells, n),
-        CellOp::Or => zip_lanes(CellOp::Or, register, cells, n),
-        CellOp::Add => zip_lanes(CellOp::Add, register, cells, n),
-        CellOp::Sub => zip_lanes(CellOp::Sub, register, cells, n),
-        CellOp::Mul => zip_lanes(CellOp::Mul, register, cells, n),
-        CellOp::Div => zip_lanes(CellOp::Div, register, cells, n),
-        CellOp::Rem => zip_lanes(CellOp::Rem, register, cells, n),
-        CellOp::FloatAdd => zip_lanes(CellOp::FloatAdd, register, cells, n),
-        CellOp::FloatSub => zip_lanes(CellOp::FloatSub, register, cells, n),
-        CellOp::FloatMul => zip_lanes(CellOp::FloatMul, register, cells, n),
-        CellOp::FloatDiv => zip_lanes(CellOp::FloatDiv, register, cells, n),
-        CellOp::FloatRem => zip_lanes(CellOp::FloatRem, register, cells, n),
+        CellOp::Index => zip_lanes(0, register, cells, n),
+        CellOp::BitwiseNand => zip_lanes(1, register, cells, n),
+        CellOp::BitwiseAnd => zip_lanes(2, register, cells, n),
+        CellOp::BitwiseOr => zip_lanes(3, register, cells, n),
+        CellOp::BitwiseXor => zip_lanes(4, register, cells, n),
+        CellOp::LeftShift => zip_lanes(5, register, cells, n),
+        CellOp::LogicalRightShift => zip_lanes(6, register, cells, n),
+        CellOp::ArithmeticRightShift => zip_lanes(7, register, cells, n),
+        CellOp::And => zip_lanes(8, register, cells, n),
+        CellOp::Or => zip_lanes(9, register, cells, n),
+        CellOp::Add => zip_lanes(10, register, cells, n),
+        CellOp::Sub => zip_lanes(11, register, cells, n),
+        CellOp::Mul => zip_lanes(12, register, cells, n),
+        CellOp::Div => zip_lanes(13, register, cells, n),
+        CellOp::Rem => zip_lanes(14, register, cells, n),
+        CellOp::FloatAdd => zip_lanes(15, register, cells, n),
+        CellOp::FloatSub => zip_lanes(16, register, cells, n),
+        CellOp::FloatMul => zip_lanes(17, register, cells, n),
+        CellOp::FloatDiv => zip_lanes(18, register, cells, n),
+        CellOp::FloatRem => zip_lanes(19, register, cells, n),
     }
 }
 
@@ -72,16 +76,16 @@ pub fn alone_lanes(op: LaneOp, register: &mut [u64], n: usize)
     ensures { λ _. ⌜ now (register .exit) ≡ mapTo (laneRule op) n (now (register .entry)) ⌝ }
 {
     match op {
-        LaneOp::BitwiseNot => map_lanes(LaneOp::BitwiseNot, register, n),
-        LaneOp::Not => map_lanes(LaneOp::Not, register, n),
-        LaneOp::Neg => map_lanes(LaneOp::Neg, register, n),
-        LaneOp::Inc => map_lanes(LaneOp::Inc, register, n),
-        LaneOp::Dec => map_lanes(LaneOp::Dec, register, n),
-        LaneOp::IsNonNegative => map_lanes(LaneOp::IsNonNegative, register, n),
-        LaneOp::ToInt => map_lanes(LaneOp::ToInt, register, n),
-        LaneOp::ToFloat => map_lanes(LaneOp::ToFloat, register, n),
-        LaneOp::FloatNeg => map_lanes(LaneOp::FloatNeg, register, n),
-        LaneOp::FloatIsNonNegative => map_lanes(LaneOp::FloatIsNonNegative, register, n),
+        LaneOp::BitwiseNot => map_lanes(0, register, n),
+        LaneOp::Not => map_lanes(1, register, n),
+        LaneOp::Neg => map_lanes(2, register, n),
+        LaneOp::Inc => map_lanes(3, register, n),
+        LaneOp::Dec => map_lanes(4, register, n),
+        LaneOp::IsNonNegative => map_lanes(5, register, n),
+        LaneOp::ToInt => map_lanes(6, register, n),
+        LaneOp::ToFloat => map_lanes(7, register, n),
+        LaneOp::FloatNeg => map_lanes(8, register, n),
+        LaneOp::FloatIsNonNegative => map_lanes(9, register, n),
     }
 }
 

@@ -17,6 +17,7 @@ use Rattle.machine_model.specs.Step.{Outcome, step}
 use Rattle.machine_model.specs.Step.Outcome.{next}
 use Rattle.machine_model.specs.Formed.{Rising}
 use Rattle.machine_model.proofs.Outcomes.{or-right}
+use Rattle.machine_ops.specs.Found.{partnerOf}
 use Rattle.machine_ops.specs.Place.{pick}
 use Rattle.machine_ops.specs.declared.place.Place.{Place}
 use Rattle.machine_step.specs.Held.{Held, After, Code}
@@ -103,15 +104,23 @@ module _ (s input : List ℕ) (c : Held) (h : Fits s input c) where
     fits-on b _ (goes t) r o q a = subst (λ (d : After). Fits s input (d .held)) (sym q) (step-fits s input b t c h r)
     fits-on b _ (stops n z) r o q a = absurd (eqb-false n 0 z (sym (ap (λ (d : After). d .number) q) ∙ a))
 
+-- what the search for a partner asks
+pub op-here : (s input : List ℕ) (x : Code) (c : Held) → Going s input x c → overOf (c .place) (length (x .kinds)) ≡ false
+    → (c .place .position < length (x .kinds)) × (length (x .kinds) ≤ 4096)
+op-here s input x c h e =
+    let n : length (x .kinds) ≡ length (patchOf s .items) = ap (λ (y : Code). length (y .kinds)) (h .read) ∙ many-kinds s in
+    (not-past (c .place) _ e, omega (arith, n, few-items s))
+
 -- what a step asks
 pub step-asks : (s input : List ℕ) (x : Code) (c : Held) → Going s input x c → overOf (c .place) (length (x .kinds)) ≡ false
+    → (w : ℕ) → w ≡ partnerOf (x .kinds) (c .place .position)
     → (c .place .position < length (x .kinds)) × (length (x .kinds) ≤ 4096) × (1024 ≤ length (c .register)) × (length (c .calls) ≡ 256) × (length (c .refs) ≡ 256)
     × (c .place .functions ≤ length (c .table)) × Rising (take (c .place .functions) (c .table)) × (c .place .depth ≤ 256) × (c .place .saved ≤ 256)
     × (c .place .pointer ≤ 1000000000) × (c .place .length ≤ 2000000000) × Fine x
-step-asks s input x c h e =
-    let k = h .fits .counted in let f = h .fits .formed in
-    let n : length (x .kinds) ≡ length (patchOf s .items) = ap (λ (y : Code). length (y .kinds)) (h .read) ∙ many-kinds s in
-    (not-past (c .place) _ e, omega (arith, n, few-items s), k .wide, k .call-room, k .ref-room, k .functions, f .rising, k .depth, k .saved, f .near, f .short, subst (λ (y : Code). Fine y) (sym (h .read)) (fine s))
+    × (w ≡ partnerOf (x .kinds) (c .place .position))
+step-asks s input x c h e w p =
+    let k = h .fits .counted in let f = h .fits .formed in let o = op-here s input x c h e in
+    (o .0, o .1, k .wide, k .call-room, k .ref-room, k .functions, f .rising, k .depth, k .saved, f .near, f .short, subst (λ (y : Code). Fine y) (sym (h .read)) (fine s), p)
 
 -- what a step leaves where it goes on is good and well formed
 pub going-on : (s input : List ℕ) (x : Code) (c : Held) → Bytes s → Going s input x c → overOf (c .place) (length (x .kinds)) ≡ false

@@ -45,6 +45,7 @@ impl Machine {
         requires { ⌜ Going (now bytes) (now input) (code (now kinds) (now counts) (now needs) (now places) (now bytes)) (lent self (now register) (now tape) (now table) (now channel) (now output)) ⌝ }
         ensures { λ r. ⌜ ranTo r (now (register .exit)) (now (tape .exit)) (now (table .exit)) (now (channel .exit)) (now (output .exit)) ≡ runOf budget 0 (code (now (kinds .entry)) (now (counts .entry)) (now (needs .entry)) (now (places .entry)) (now (bytes .entry))) (now (input .entry)) (lent self (now (register .entry)) (now (tape .entry)) (now (table .entry)) (now (channel .entry)) (now (output .entry))) ⌝ }
     {
+        let mut partners = [0u16; 4096];
         let mut calls = self.calls;
         let mut refs = self.refs;
         let mut h = self.place;
@@ -70,12 +71,14 @@ impl Machine {
                     machine: self,
                 };
             }
+            let with = machine_ops::scan::look_up(kinds, &mut partners, h.position);
             let out = machine_step::step::step(
                 h,
                 kinds,
                 counts,
                 needs,
                 places,
+                with,
                 bytes,
                 &mut calls,
                 &mut refs,
@@ -129,12 +132,14 @@ impl Machine {
                 machine: self,
             };
         }
+        let with = machine_ops::scan::partner(kinds, h.position);
         let out = machine_step::step::step(
             h,
             kinds,
             counts,
             needs,
             places,
+            with,
             bytes,
             &mut calls,
             &mut refs,

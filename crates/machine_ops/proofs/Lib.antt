@@ -1,3 +1,4 @@
 pub mod Parts
+pub mod Partners
 pub mod Scans
 pub mod Tables

@@ -80,4 +80,5 @@ controlOf k ks p cs g ts =
     (pick (eqb k 5) (steered (whileOf ks p g) cs ts)
     (pick (eqb k 6) (steered (ifOf ks p g) cs ts)
     (pick (eqb k 7) (steered (elsesOf ks p) cs ts)
-    (steered (endsOf ks p g) cs ts))))))
+    (pick (eqb k 8) (steered (endsOf ks p g) cs ts)
+    (steered (hop 0 (next p)) cs ts)))))))

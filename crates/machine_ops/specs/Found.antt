@@ -3,7 +3,8 @@
 use mathlib.Core.Bool.{Bool, true, false, cond}
 use mathlib.Core.List.{List, map, reverse}
 use mathlib.Core.Option.{Option, none, some}
-use Prim.Native.Nat.{ℕ, zero, suc, _+_}
+use mathlib.Core.Path.{_≡_}
+use Prim.Native.Nat.{ℕ, zero, suc, _+_, _≤_, _<_}
 use lib.ListN.{length, getD, set, take, drop}
 use lib.Dec.{ltb, eqb}
 use Rattle.ops.specs.Op.{Mark}
@@ -87,6 +88,21 @@ openOf ks at = placeOr (length ks) (toOpen 0 (reverse (take at (map rowMark ks))
 
 unfoldable pub markOf : List ℕ → ℕ → ℕ
 markOf ks k = placeOr (length ks) (kth 0 k (map rowFunction ks))
+
+-- the partner of the op at i: the End of a Function, a While and an Else, the Else or End of an If, the op that an End closes; 0 for any other
+unfoldable pub partnerOf : List ℕ → ℕ → ℕ
+unfolding pick
+partnerOf ks i =
+    pick (eqb (getD ks i 0) 2) (endOf ks (i + 1))
+    (pick (eqb (getD ks i 0) 5) (endOf ks (i + 1))
+    (pick (eqb (getD ks i 0) 6) (elseOf ks (i + 1))
+    (pick (eqb (getD ks i 0) 7) (endOf ks (i + 1))
+    (pick (eqb (getD ks i 0) 8) (openOf ks i) 0))))
+
+-- ps has 0 for an op whose partner was not looked for, and else one more than its partner's place
+pub record Noted (ks ps : List ℕ) : Type 0 where
+  pub many : length ps ≡ 4096
+  pub each : (i : ℕ) → i < length ks → 0 < getD ps i 0 → getD ps i 0 ≡ partnerOf ks i + 1
 
 -- ---- the table: n places are counted in ts
 

@@ -3,6 +3,7 @@ ghost use mathlib.Core.Path.{_≡_};
 ghost use Prim.Native.Nat.{ℕ, _+_, _≤_, _<_};
 ghost use lib.ListN.{length, take};
 ghost use Rattle.machine_ops.specs.Place.{laned, steered};
+ghost use Rattle.machine_ops.specs.Found.{endOf, elseOf, openOf};
 ghost use Rattle.machine_ops.specs.Control.{jumpOf, functionOf, callOf, retOf, whileOf, ifOf, elsesOf, endsOf, controlOf};
 ghost use Rattle.machine_model.specs.Formed.{Rising};
 use crate::place::Hop;
@@ -28,13 +29,12 @@ impl Place {
         self.goto(e + 1)
     }
 
-    fn function(mut self, kinds: &[u8], table: &mut [u16]) -> Hop
-        requires { ⌜ (self .position < length (now kinds)) × (length (now kinds) ≤ 4096) × (self .functions ≤ length (now table)) × Rising (take (self .functions) (now table)) ⌝ }
+    fn function(mut self, kinds: &[u8], end: usize, table: &mut [u16]) -> Hop
+        requires { ⌜ (end ≡ endOf (now kinds) (self .position + 1)) × (self .position < length (now kinds)) × (length (now kinds) ≤ 4096) × (self .functions ≤ length (now table)) × Rising (take (self .functions) (now table)) ⌝ }
         ensures { λ r. ⌜ laned r (now (table .exit)) ≡ functionOf (now (kinds .entry)) self (now (table .entry)) ⌝ }
     {
         let p = self.position;
         let n = self.functions;
-        let end = scan::jmp_to_end(kinds, p + 1);
         if kinds.len() <= end {
             return self.refuse(20);
         }
@@ -94,77 +94,71 @@ impl Place {
         self.goto(p + 1)
     }
 
-    fn while_op(self, kinds: &[u8], register: &[u64]) -> Hop
-        requires { ⌜ (self .position < length (now kinds)) × (length (now kinds) ≤ 4096) × (1024 ≤ length (now register)) ⌝ }
+    fn while_op(self, kinds: &[u8], end: usize, register: &[u64]) -> Hop
+        requires { ⌜ (end ≡ endOf (now kinds) (self .position + 1)) × (self .position < length (now kinds)) × (length (now kinds) ≤ 4096) × (1024 ≤ length (now register)) ⌝ }
         ensures { λ r. ⌜ r ≡ whileOf (now (kinds .entry)) self (now (register .entry)) ⌝ }
     {
-        let p = self.position;
         if register[0] == 0 {
-            let e = scan::jmp_to_end(kinds, p + 1);
-            return self.jump(kinds, e);
+            return self.jump(kinds, end);
         }
         self.next()
     }
 
-    fn if_op(self, kinds: &[u8], register: &[u64]) -> Hop
-        requires { ⌜ (self .position < length (now kinds)) × (length (now kinds) ≤ 4096) × (1024 ≤ length (now register)) ⌝ }
+    fn if_op(self, kinds: &[u8], turn: usize, register: &[u64]) -> Hop
+        requires { ⌜ (turn ≡ elseOf (now kinds) (self .position + 1)) × (self .position < length (now kinds)) × (length (now kinds) ≤ 4096) × (1024 ≤ length (now register)) ⌝ }
         ensures { λ r. ⌜ r ≡ ifOf (now (kinds .entry)) self (now (register .entry)) ⌝ }
     {
-        let p = self.position;
         if register[0] == 0 {
-            let e = scan::jmp_to_else(kinds, p + 1);
-            return self.jump(kinds, e);
+            return self.jump(kinds, turn);
         }
         self.next()
     }
 
-    fn else_op(self, kinds: &[u8]) -> Hop
-        requires { ⌜ (self .position < length (now kinds)) × (length (now kinds) ≤ 4096) ⌝ }
+    fn else_op(self, kinds: &[u8], end: usize) -> Hop
+        requires { ⌜ (end ≡ endOf (now kinds) (self .position + 1)) × (self .position < length (now kinds)) × (length (now kinds) ≤ 4096) ⌝ }
         ensures { λ r. ⌜ r ≡ elsesOf (now (kinds .entry)) self ⌝ }
     {
-        let p = self.position;
-        let e = scan::jmp_to_end(kinds, p + 1);
-        self.jump(kinds, e)
+        self.jump(kinds, end)
     }
 
-    fn end(self, kinds: &[u8], register: &[u64]) -> Hop
-        requires { ⌜ (self .position < length (now kinds)) × (length (now kinds) ≤ 4096) × (1024 ≤ length (now register)) ⌝ }
+    fn end(self, kinds: &[u8], opener: usize, register: &[u64]) -> Hop
+        requires { ⌜ (opener ≡ openOf (now kinds) (self .position)) × (self .position < length (now kinds)) × (length (now kinds) ≤ 4096) × (1024 ≤ length (now register)) ⌝ }
         ensures { λ r. ⌜ r ≡ endsOf (now (kinds .entry)) self (now (register .entry)) ⌝ }
     {
-        let p = self.position;
         if register[0] == 0 {
             return self.next();
         }
-        let e = scan::get_matching_for_end(kinds, p);
-        if kinds.len() <= e {
+        if kinds.len() <= opener {
             return self.next();
         }
-        if kinds[e] == 5 {
-            return self.goto(e + 1);
+        if kinds[opener] == 5 {
+            return self.goto(opener + 1);
         }
         self.next()
     }
 
-    // The op of row k.
+    // The op of row k, whose partner stands at `with`.
     pub fn control(
         self,
         k: u8,
+        with: usize,
         kinds: &[u8],
         calls: &mut [u16; 256],
         register: &[u64],
         table: &mut [u16],
     ) -> Hop
-        requires { ⌜ (self .position < length (now kinds)) × (length (now kinds) ≤ 4096) × (1024 ≤ length (now register)) × (length (now calls) ≡ 256) × (self .depth ≤ 256) × (self .functions ≤ length (now table)) × Rising (take (self .functions) (now table)) ⌝ }
+        requires { ⌜ (self .position < length (now kinds)) × (length (now kinds) ≤ 4096) × (1024 ≤ length (now register)) × (length (now calls) ≡ 256) × (self .depth ≤ 256) × (self .functions ≤ length (now table)) × Rising (take (self .functions) (now table)) × (k ≡ 2 → with ≡ endOf (now kinds) (self .position + 1)) × (k ≡ 5 → with ≡ endOf (now kinds) (self .position + 1)) × (k ≡ 6 → with ≡ elseOf (now kinds) (self .position + 1)) × (k ≡ 7 → with ≡ endOf (now kinds) (self .position + 1)) × (k ≡ 8 → with ≡ openOf (now kinds) (self .position)) ⌝ }
         ensures { λ r. ⌜ steered r (now (calls .exit)) (now (table .exit)) ≡ controlOf k (now (kinds .entry)) self (now (calls .entry)) (now (register .entry)) (now (table .entry)) ⌝ }
     {
         match k {
-            2 => self.function(kinds, table),
+            2 => self.function(kinds, with, table),
             3 => self.call(kinds, calls, register, table),
             4 => self.ret(calls),
-            5 => self.while_op(kinds, register),
-            6 => self.if_op(kinds, register),
-            7 => self.else_op(kinds),
-            _ => self.end(kinds, register),
+            5 => self.while_op(kinds, with, register),
+            6 => self.if_op(kinds, with, register),
+            7 => self.else_op(kinds, with),
+            8 => self.end(kinds, with, register),
+            _ => self.next(),
         }
     }
 }

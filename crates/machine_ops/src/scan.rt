@@ -1,8 +1,9 @@
-// The search for a partner: labelled scans over the ops, left at depth zero, that yield the partner's place by break.
+// The search for a partner: labelled scans over the ops, left at depth zero, that yield the partner's place by break. A run makes it once for each op
+// that it meets.
 ghost use mathlib.Core.Path.{_≡_};
 ghost use Prim.Native.Nat.{ℕ, _+_, _≤_, _<_};
 ghost use lib.ListN.{length};
-ghost use Rattle.machine_ops.specs.Found.{rowMark, rowFunction, depthAfter, closesAt, turnsAt, depthBefore, opensAt, hitsAt, lessAfter, endOf, elseOf, openOf, markOf};
+ghost use Rattle.machine_ops.specs.Found.{rowMark, rowFunction, depthAfter, closesAt, turnsAt, depthBefore, opensAt, hitsAt, lessAfter, endOf, elseOf, openOf, markOf, partnerOf, Noted};
 
 // The depth after an op of row k.
 fn after(k: u8, d: usize) -> usize
@@ -54,7 +55,7 @@ fn turns(k: u8, d: usize) -> bool
 // The End that closes the bracket open before `from`; the op count where there is none.
 pub fn jmp_to_end(kinds: &[u8], from: usize) -> usize
     requires { ⌜ (from ≤ length (now kinds)) × (length (now kinds) ≤ 4096) ⌝ }
-    ensures { λ r. ⌜ r ≡ endOf (now (kinds .entry)) from ⌝ }
+    ensures { λ r. ⌜ (r ≡ endOf (now (kinds .entry)) from) × (r ≤ length (now (kinds .entry))) ⌝ }
 {
     let mut i = from;
     let mut depth: usize = 0;
@@ -75,7 +76,7 @@ pub fn jmp_to_end(kinds: &[u8], from: usize) -> usize
 // The Else at depth one, or the End, of the If before `from`; the op count where there is none.
 pub fn jmp_to_else(kinds: &[u8], from: usize) -> usize
     requires { ⌜ (from ≤ length (now kinds)) × (length (now kinds) ≤ 4096) ⌝ }
-    ensures { λ r. ⌜ r ≡ elseOf (now (kinds .entry)) from ⌝ }
+    ensures { λ r. ⌜ (r ≡ elseOf (now (kinds .entry)) from) × (r ≤ length (now (kinds .entry))) ⌝ }
 {
     let mut i = from;
     let mut depth: usize = 0;
@@ -137,7 +138,7 @@ fn before_op(k: u8, d: usize) -> usize
 // The op that the End at `at` closes, searched backwards; the op count where there is none.
 pub fn get_matching_for_end(kinds: &[u8], at: usize) -> usize
     requires { ⌜ (at ≤ length (now kinds)) × (length (now kinds) ≤ 4096) ⌝ }
-    ensures { λ r. ⌜ r ≡ openOf (now (kinds .entry)) at ⌝ }
+    ensures { λ r. ⌜ (r ≡ openOf (now (kinds .entry)) at) × (r ≤ length (now (kinds .entry))) ⌝ }
 {
     let mut i = at;
     let mut depth: usize = 0;
@@ -153,6 +154,42 @@ pub fn get_matching_for_end(kinds: &[u8], at: usize) -> usize
         depth = before_op(k, depth);
     };
     found
+}
+
+// Where the op at i may lead: the End, the Else or the opening op that goes with it; 0 for an op that does not steer by a partner.
+pub fn partner(kinds: &[u8], i: usize) -> usize
+    requires { ⌜ (i < length (now kinds)) × (length (now kinds) ≤ 4096) ⌝ }
+    ensures { λ r. ⌜ (r ≡ partnerOf (now (kinds .entry)) i) × (r ≤ 4096) ⌝ }
+{
+    let k = kinds[i];
+    match k {
+        2 => jmp_to_end(kinds, i + 1),
+        5 => jmp_to_end(kinds, i + 1),
+        6 => jmp_to_else(kinds, i + 1),
+        7 => jmp_to_end(kinds, i + 1),
+        8 => get_matching_for_end(kinds, i),
+        _ => 0,
+    }
+}
+
+fn wide(x: u16) -> usize
+    ensures { λ r. ⌜ r ≡ x ⌝ }
+{
+    x as usize
+}
+
+// The partner of the op at i: as it was noted, or searched for now and noted.
+pub fn look_up(kinds: &[u8], partners: &mut [u16; 4096], i: usize) -> usize
+    requires { ⌜ (i < length (now kinds)) × (length (now kinds) ≤ 4096) × Noted (now kinds) (now partners) ⌝ }
+    ensures { λ r. ⌜ (r ≡ partnerOf (now (kinds .entry)) i) × Noted (now (kinds .entry)) (now (partners .exit)) ⌝ }
+{
+    let noted = wide(partners[i]);
+    if noted == 0 {
+        let p = partner(kinds, i);
+        partners[i] = (p + 1) as u16;
+        return p;
+    }
+    noted - 1
 }
 
 // Whether an op of row k is the Function mark that j marks are to be passed before.

@@ -4,9 +4,9 @@ use mathlib.Core.Bool.{Bool, true, false}
 use Prim.Native.Nat.{ℕ}
 use native.Mathlib.Omega.{arith}
 use borrow.Author.Tests.{eqb-true, eqb-false}
-use lib.Dec.{eqb, ltb}
+use lib.Dec.{eqb}
 use Rattle.machine_ops.specs.Place.{pick}
-use Rattle.machine_step.specs.Family.{familyOf}
+use Rattle.machine_step.specs.Family.{familyOf, among, controlRows, cellRows, laneRows, deviceRows}
 
 -- a test whose first answer is another family's
 past : (b : Bool) (x y : ℕ) → eqb x 5 ≡ false → pick b x y ≡ 5 → y ≡ 5
@@ -27,9 +27,6 @@ pub offset-row : (k : ℕ) → familyOf k ≡ 5 → k ≡ 16
 unfolding familyOf pick
 offset-row k e =
     eqb-true k 16
-    (found (eqb k 16) _ (past (ltb k 15) 0 _ refl (past (ltb k 9) 1 _ refl (past (ltb k 2) 0 _ refl e)))
-    (λ f. none-left
-    (past (eqb k 60) 4 _ refl (past (eqb k 59) 4 _ refl (past (ltb k 52) 3 _ refl (past (ltb k 50) 2 _ refl
-    (past (ltb k 45) 3 _ refl (past (ltb k 43) 0 _ refl (past (ltb k 40) 4 _ refl (past (eqb k 37) 3 _ refl
-    (past (eqb k 36) 6 _ refl (past (ltb k 36) 3 _ refl (past (ltb k 33) 2 _ refl (past (eqb k 27) 3 _ refl
-    (past (eqb k 21) 3 _ refl f)))))))))))))))
+    (found (eqb k 16) _
+    (past (among k deviceRows) 4 _ refl (past (among k laneRows) 3 _ refl (past (among k cellRows) 2 _ refl (past (among k controlRows) 1 _ refl e))))
+    (λ f. none-left (past (eqb k 36) 6 _ refl f)))

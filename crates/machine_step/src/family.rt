@@ -4,62 +4,57 @@ ghost use Rattle.machine_step.specs.Family.{familyOf, cellRow, laneRow};
 use lanes::lane::CellOp;
 use lanes::lane::LaneOp;
 
-// 0 the tape's, 1 those that steer, 2 with cells, 3 lanes alone, 4 the device's, 5 Offset, 6 Swap.
+// 0 the tape's, 1 those that steer, 2 with cells, 3 lanes alone, 4 the device's, 5 Offset, 6 Swap. It is one match with a number an arm, so that a step
+// jumps once, by its row.
 pub fn family_of(k: u8) -> u8
     ensures { λ r. ⌜ r ≡ familyOf k ⌝ }
 {
-    if k < 2 {
-        return 0;
+    match k {
+        2 => 1,
+        3 => 1,
+        4 => 1,
+        5 => 1,
+        6 => 1,
+        7 => 1,
+        8 => 1,
+        15 => 2,
+        17 => 2,
+        18 => 2,
+        19 => 2,
+        20 => 2,
+        22 => 2,
+        23 => 2,
+        24 => 2,
+        25 => 2,
+        26 => 2,
+        28 => 2,
+        29 => 2,
+        30 => 2,
+        31 => 2,
+        32 => 2,
+        45 => 2,
+        46 => 2,
+        47 => 2,
+        48 => 2,
+        49 => 2,
+        21 => 3,
+        27 => 3,
+        33 => 3,
+        34 => 3,
+        35 => 3,
+        37 => 3,
+        43 => 3,
+        44 => 3,
+        50 => 3,
+        51 => 3,
+        38 => 4,
+        39 => 4,
+        59 => 4,
+        60 => 4,
+        16 => 5,
+        36 => 6,
+        _ => 0,
     }
-    if k < 9 {
-        return 1;
-    }
-    if k < 15 {
-        return 0;
-    }
-    if k == 16 {
-        return 5;
-    }
-    if k == 21 {
-        return 3;
-    }
-    if k == 27 {
-        return 3;
-    }
-    if k < 33 {
-        return 2;
-    }
-    if k < 36 {
-        return 3;
-    }
-    if k == 36 {
-        return 6;
-    }
-    if k == 37 {
-        return 3;
-    }
-    if k < 40 {
-        return 4;
-    }
-    if k < 43 {
-        return 0;
-    }
-    if k < 45 {
-        return 3;
-    }
-    if k < 50 {
-        return 2;
-    }
-    if k < 52 {
-        return 3;
-    }
-    if k == 59 {
-        return 4;
-    }
-    if k == 60 {
-        return 4;
-    }
-    0
 }
 
 pub fn cell_op(k: u8) -> CellOp

@@ -1,8 +1,9 @@
-// One step: the op at the position, once its lanes are there.
+// One step: the op at the position, once its lanes are there. Its partner is given.
 ghost use mathlib.Core.Path.{_≡_};
 ghost use Prim.Native.Nat.{ℕ, _+_, _*_, _≤_, _<_};
 ghost use lib.ListN.{length, getD, take};
 ghost use Rattle.machine_model.specs.Formed.{Rising};
+ghost use Rattle.machine_ops.specs.Found.{partnerOf};
 ghost use Rattle.machine_step.specs.Held.{held, after, code};
 ghost use Rattle.machine_step.specs.Step.{opOf, stepOf};
 ghost use Rattle.machine_step.specs.Fine.{Fine};
@@ -24,13 +25,14 @@ fn wide32(x: u32) -> usize
     x as usize
 }
 
-// The op of row k that counts n, with its payload at byte a.
+// The op at the position: of row k, it counts n, its payload is at byte a, and its partner stands at `with`.
 fn op(
     h: Place,
     k: u8,
     n: usize,
     a: usize,
     kinds: &[u8],
+    with: usize,
     bytes: &[u8],
     calls: &mut [u16; 256],
     refs: &mut [u32; 256],
@@ -41,12 +43,12 @@ fn op(
     output: &mut [u64],
     input: &[u64],
 ) -> Hop
-    requires { ⌜ (h .position < length (now kinds)) × (length (now kinds) ≤ 4096) × (1024 ≤ length (now register)) × (length (now calls) ≡ 256) × (length (now refs) ≡ 256) × (h .functions ≤ length (now table)) × Rising (take (h .functions) (now table)) × (h .depth ≤ 256) × (h .saved ≤ 256) × (h .pointer ≤ 1000000000) × (h .length ≤ 2000000000) × (n ≤ 1024) × (k ≡ 1 → a + 8 * n ≤ length (now bytes)) × (k ≡ 40 → a + 8 * n ≤ length (now bytes)) × (k ≡ 11 → a + 8 ≤ length (now bytes)) × (k ≡ 16 → a + 8 ≤ length (now bytes)) × (k ≡ 38 → a + 2 ≤ length (now bytes)) × (k ≡ 39 → a + 2 ≤ length (now bytes)) ⌝ }
+    requires { ⌜ (h .position < length (now kinds)) × (length (now kinds) ≤ 4096) × (1024 ≤ length (now register)) × (length (now calls) ≡ 256) × (length (now refs) ≡ 256) × (h .functions ≤ length (now table)) × Rising (take (h .functions) (now table)) × (h .depth ≤ 256) × (h .saved ≤ 256) × (h .pointer ≤ 1000000000) × (h .length ≤ 2000000000) × (n ≤ 1024) × (k ≡ 1 → a + 8 * n ≤ length (now bytes)) × (k ≡ 40 → a + 8 * n ≤ length (now bytes)) × (k ≡ 11 → a + 8 ≤ length (now bytes)) × (k ≡ 16 → a + 8 ≤ length (now bytes)) × (k ≡ 38 → a + 2 ≤ length (now bytes)) × (k ≡ 39 → a + 2 ≤ length (now bytes)) × (k ≡ getD (now kinds) (h .position) 0) × (with ≡ partnerOf (now kinds) (h .position)) ⌝ }
     ensures { λ r. ⌜ after r (now (calls .exit)) (now (refs .exit)) (now (register .exit)) (now (tape .exit)) (now (table .exit)) (now (channel .exit)) (now (output .exit)) ≡ opOf k n a (now (kinds .entry)) (now (bytes .entry)) (now (input .entry)) (held h (now (calls .entry)) (now (refs .entry)) (now (register .entry)) (now (tape .entry)) (now (table .entry)) (now (channel .entry)) (now (output .entry))) ⌝ }
 {
     let f = family_of(k);
     match f {
-        1 => h.control(k, kinds, calls, register, table),
+        1 => h.control(k, with, kinds, calls, register, table),
         2 => {
             let o = cell_op(k);
             h.cell(o, n, register, tape)
@@ -71,6 +73,7 @@ pub fn step(
     counts: &[u16],
     needs: &[u16],
     places: &[u32],
+    with: usize,
     bytes: &[u8],
     calls: &mut [u16; 256],
     refs: &mut [u32; 256],
@@ -81,7 +84,7 @@ pub fn step(
     output: &mut [u64],
     input: &[u64],
 ) -> Hop
-    requires { ⌜ (h .position < length (now kinds)) × (length (now kinds) ≤ 4096) × (1024 ≤ length (now register)) × (length (now calls) ≡ 256) × (length (now refs) ≡ 256) × (h .functions ≤ length (now table)) × Rising (take (h .functions) (now table)) × (h .depth ≤ 256) × (h .saved ≤ 256) × (h .pointer ≤ 1000000000) × (h .length ≤ 2000000000) × Fine (code (now kinds) (now counts) (now needs) (now places) (now bytes)) ⌝ }
+    requires { ⌜ (h .position < length (now kinds)) × (length (now kinds) ≤ 4096) × (1024 ≤ length (now register)) × (length (now calls) ≡ 256) × (length (now refs) ≡ 256) × (h .functions ≤ length (now table)) × Rising (take (h .functions) (now table)) × (h .depth ≤ 256) × (h .saved ≤ 256) × (h .pointer ≤ 1000000000) × (h .length ≤ 2000000000) × Fine (code (now kinds) (now counts) (now needs) (now places) (now bytes)) × (with ≡ partnerOf (now kinds) (h .position)) ⌝ }
     ensures { λ r. ⌜ after r (now (calls .exit)) (now (refs .exit)) (now (register .exit)) (now (tape .exit)) (now (table .exit)) (now (channel .exit)) (now (output .exit)) ≡ stepOf (code (now (kinds .entry)) (now (counts .entry)) (now (needs .entry)) (now (places .entry)) (now (bytes .entry))) (now (input .entry)) (held h (now (calls .entry)) (now (refs .entry)) (now (register .entry)) (now (tape .entry)) (now (table .entry)) (now (channel .entry)) (now (output .entry))) ⌝ }
 {
     let at = h.position;
@@ -98,6 +101,7 @@ pub fn step(
         n,
         a,
         kinds,
+        with,
         bytes,
         calls,
         refs,

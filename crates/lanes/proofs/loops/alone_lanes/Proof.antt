@@ -1,9 +1,11 @@
 -- `lanes::loops::alone_lanes` meets its contract: each arm is the loop's own contract at the op that the arm knows. Assumes nothing.
 use borrow.Author.Needs.{needs}
+use Rattle.lanes.specs.Lane.{laneNumbered}
 use Rattle.lanes.proofs.loops.alone_lanes.Statement.{statement}
 use Rattle.lanes.proofs.loops.alone_lanes.Tie as tie
 
 pub alone-lanes-spec : {M : Type 1} → statement M
+unfolding laneNumbered
 alone-lanes-spec =
     tie.close
     (tie.spec

@@ -1,9 +1,11 @@
 -- `lanes::loops::cell_lanes` meets its contract: each arm is the loop's own contract at the op that the arm knows. Assumes nothing.
 use borrow.Author.Needs.{needs}
+use Rattle.lanes.specs.Lane.{cellNumbered}
 use Rattle.lanes.proofs.loops.cell_lanes.Statement.{statement}
 use Rattle.lanes.proofs.loops.cell_lanes.Tie as tie
 
 pub cell-lanes-spec : {M : Type 1} → statement M
+unfolding cellNumbered
 cell-lanes-spec =
     tie.close
     (tie.spec

@@ -10,20 +10,20 @@ use Rattle.lanes.proofs.loops.map_lanes.Statement.{statement}
 use Rattle.lanes.proofs.loops.map_lanes.Tie as tie
 
 abbrev Inv-loop : tie.InvT-loop
-Inv-loop op register₀ n i₀ register i = (i ≤ n) × (length register ≡ length register₀) × (register ≡ mapTo (laneRule op) i register₀)
+Inv-loop number register₀ n op i₀ register i = (i ≤ n) × (length register ≡ length register₀) × (register ≡ mapTo (laneRule op) i register₀)
 
 abbrev μ-loop : tie.MeasureT-loop
-μ-loop op register₀ n i₀ register i = n - i
+μ-loop number register₀ n op i₀ register i = n - i
 
 loop-holds : tie.Need-loop-holds Inv-loop μ-loop
 unfolding mapTo
 loop-holds c = search needs
 
 loop-again : tie.Need-loop-again Inv-loop μ-loop
-loop-again c = let a = c .before .before .before .before .before .args in (search needs, search needs, map-again (laneRule (a .op)) _ _ _ _ (c .before .before .before .loop .inv .2) (c .lane-rule .ensures) (search needs))
+loop-again c = (search needs, search needs, map-again _ _ _ _ _ (c .before .before .before .loop .inv .2) (c .lane-rule .ensures) (search needs))
 
 returns : tie.Need-returns Inv-loop μ-loop
-returns c = let a = c .before .before .before .args in let e : c .before .loop .i ≡ a .n = omega arith in c .before .loop .inv .2 ∙ ap (λ (k : ℕ). mapTo (laneRule (a .op)) k (a .register .now)) e
+returns c = let e : c .before .loop .i ≡ c .before .before .before .before .args .n = omega arith in cc
 
 pub map-lanes-spec : {M : Type 1} → statement M
 map-lanes-spec =
@@ -31,6 +31,7 @@ map-lanes-spec =
     (tie.spec
     Inv-loop
     μ-loop
+    (λ c κs. search needs)
     loop-holds
     (λ c. search needs)
     (λ c. search needs)

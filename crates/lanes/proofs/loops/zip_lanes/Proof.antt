@@ -10,20 +10,20 @@ use Rattle.lanes.proofs.loops.zip_lanes.Statement.{statement}
 use Rattle.lanes.proofs.loops.zip_lanes.Tie as tie
 
 abbrev Inv-loop : tie.InvT-loop
-Inv-loop op register₀ cells n lane₀ register lane = (lane ≤ n) × (length register ≡ length register₀) × (register ≡ zipTo (cellRule op) lane register₀ cells)
+Inv-loop number register₀ cells n op lane₀ register lane = (lane ≤ n) × (length register ≡ length register₀) × (register ≡ zipTo (cellRule op) lane register₀ cells)
 
 abbrev μ-loop : tie.MeasureT-loop
-μ-loop op register₀ cells n lane₀ register lane = n - lane
+μ-loop number register₀ cells n op lane₀ register lane = n - lane
 
 loop-holds : tie.Need-loop-holds Inv-loop μ-loop
 unfolding zipTo
 loop-holds c = search needs
 
 loop-again : tie.Need-loop-again Inv-loop μ-loop
-loop-again c = (search needs, search needs, zip-again (cellRule (c .before .before .before .before .before .before .before .args .op)) _ _ _ _ _ (c .before .before .before .before .loop .inv .2) (c .cell-rule .ensures) (search needs) (search needs))
+loop-again c = (search needs, search needs, zip-again _ _ _ _ _ _ (c .before .before .before .before .loop .inv .2) (c .cell-rule .ensures) (search needs) (search needs))
 
 returns : tie.Need-returns Inv-loop μ-loop
-returns c = let a = c .before .before .before .before .args in let e : c .before .loop .lane ≡ a .n = omega arith in c .before .loop .inv .2 ∙ ap (λ (k : ℕ). zipTo (cellRule (a .op)) k (a .register .now) (a .cells .now)) e
+returns c = let e : c .before .loop .lane ≡ c .before .before .before .before .before .args .n = omega arith in cc
 
 pub zip-lanes-spec : {M : Type 1} → statement M
 zip-lanes-spec =
@@ -31,6 +31,7 @@ zip-lanes-spec =
     (tie.spec
     Inv-loop
     μ-loop
+    (λ c κs. search needs)
     loop-holds
     (λ c. search needs)
     (λ c. search needs)

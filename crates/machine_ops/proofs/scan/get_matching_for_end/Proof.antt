@@ -29,7 +29,7 @@ scan-again c =
 returns-2 : tie.Need-returns-2 Inv-scan μ-scan
 returns-2 c =
     let at = c .before .before .before .before .scan in
-    back-here _ (at .i) _ _ (omega arith) (omega arith) (sym (c .before .opens .ensures) ∙ c .if2 .taken) ∙ at .inv .1
+    (back-here _ (at .i) _ _ (omega arith) (omega arith) (sym (c .before .opens .ensures) ∙ c .if2 .taken) ∙ at .inv .1, omega arith)
 
 pub get-matching-for-end-spec : {M : Type 1} → statement M
 get-matching-for-end-spec =
@@ -44,5 +44,5 @@ get-matching-for-end-spec =
     (λ c κs. omega arith)
     (λ c. omega arith)
     scan-again
-    (λ c. back-none _ _ _ (c .if1 .taken) ∙ c .before .scan .inv .1)
+    (λ c. (back-none _ _ _ (c .if1 .taken) ∙ c .before .scan .inv .1, search needs))
     returns-2)

@@ -42,5 +42,5 @@ jmp-to-else-spec =
     (λ c. search needs)
     (λ c. search needs)
     scan-again
-    (λ c. from-none else-turning rowMark _ _ _ (c .if1 .taken) ∙ c .before .scan .inv .2)
-    (λ c. from-here else-turning rowMark _ _ _ (omega arith) (sym (c .before .turns .ensures) ∙ c .if2 .taken) ∙ c .before .before .before .before .scan .inv .2))
+    (λ c. (from-none else-turning rowMark _ _ _ (c .if1 .taken) ∙ c .before .scan .inv .2, search needs))
+    (λ c. (from-here else-turning rowMark _ _ _ (omega arith) (sym (c .before .turns .ensures) ∙ c .if2 .taken) ∙ c .before .before .before .before .scan .inv .2, search needs)))

@@ -42,5 +42,5 @@ jmp-to-end-spec =
     (λ c. search needs)
     (λ c. search needs)
     scan-again
-    (λ c. from-none end-turning rowMark _ _ _ (c .if1 .taken) ∙ c .before .scan .inv .2)
-    (λ c. from-here end-turning rowMark _ _ _ (omega arith) (sym (c .before .closes .ensures) ∙ c .if2 .taken) ∙ c .before .before .before .before .scan .inv .2))
+    (λ c. (from-none end-turning rowMark _ _ _ (c .if1 .taken) ∙ c .before .scan .inv .2, search needs))
+    (λ c. (from-here end-turning rowMark _ _ _ (omega arith) (sym (c .before .closes .ensures) ∙ c .if2 .taken) ∙ c .before .before .before .before .scan .inv .2, search needs)))

@@ -5,8 +5,15 @@ use Rattle.machine_ops.specs.Place.{pick}
 use borrow.Author.Tests.{ne-eqb}
 use mathlib.Core.Path.{_∙_, refl, sym}
 use borrow.Author.Needs.{needs}
+use Rattle.machine_ops.proofs.Partners.{of-function, of-while, of-if, of-else, of-end}
 use Rattle.machine_step.proofs.step.op.Statement.{statement}
 use Rattle.machine_step.proofs.step.op.Tie as tie
+
+control-requires : tie.Need-control-requires
+control-requires c κs =
+    let p = c .before .before .before .before .before .before .before .before .before .before .before .before .before .pre in
+    let w = p .19 in
+    (search needs, search needs, search needs, search needs, search needs, search needs, search needs, (λ e. of-function _ _ _ w (sym (p .18) ∙ e)), (λ e. of-while _ _ _ w (sym (p .18) ∙ e)), (λ e. of-if _ _ _ w (sym (p .18) ∙ e)), (λ e. of-else _ _ _ w (sym (p .18) ∙ e)), (λ e. of-end _ _ _ w (sym (p .18) ∙ e)))
 
 returns : tie.Need-returns
 unfolding opOf pick
@@ -41,7 +48,7 @@ op-spec =
     tie.close
     (tie.spec
     (λ c κs. search needs)
-    (λ c κs. search needs)
+    control-requires
     (λ c κs. search needs)
     (λ c κs. search needs)
     (λ c κs. search needs)

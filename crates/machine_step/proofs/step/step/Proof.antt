@@ -31,7 +31,7 @@ step-spec =
     (λ c κs. search needs)
     (λ c κs. search needs)
     returns
-    (λ c κs. let f = c .before .before .before .before .before .before .before .before .before .before .before .before .before .before .before .before .before .before .before .before .before .before .before .before .before .before .before .pre .11 in let l = c .before .before .before .before .before .before .before .before .before .before .before .before .before .before .before .before .before .before .before .before .before .before .before .before .before .before .before .pre .0 in let w = c .before .before .before .before .before .before .before .before .before .wide32 .ensures .0 in let v = c .before .before .before .before .before .before .before .before .before .before .before .before .before .wide .ensures .0 in (search needs, search needs, search needs, search needs, search needs, search needs, search needs, search needs, search needs, search needs, search needs, rw (v) (f .count _ l), (λ e. rw (w, v) (f .ints _ l e)), (λ e. rw (w, v) (f .floats _ l e)), (λ e. rw (w) (f .amount _ l e)), (λ e. rw (w) (f .by _ l e)), (λ e. rw (w) (f .gets _ l e)), (λ e. rw (w) (f .puts _ l e))))
+    (λ c κs. let f = c .before .before .before .before .before .before .before .before .before .before .before .before .before .before .before .before .before .before .before .before .before .before .before .before .before .before .before .pre .11 in let l = c .before .before .before .before .before .before .before .before .before .before .before .before .before .before .before .before .before .before .before .before .before .before .before .before .before .before .before .pre .0 in let w = c .before .before .before .before .before .before .before .before .before .wide32 .ensures .0 in let v = c .before .before .before .before .before .before .before .before .before .before .before .before .before .wide .ensures .0 in (search needs, search needs, search needs, search needs, search needs, search needs, search needs, search needs, search needs, search needs, search needs, rw (v) (f .count _ l), (λ e. rw (w, v) (f .ints _ l e)), (λ e. rw (w, v) (f .floats _ l e)), (λ e. rw (w) (f .amount _ l e)), (λ e. rw (w) (f .by _ l e)), (λ e. rw (w) (f .gets _ l e)), (λ e. rw (w) (f .puts _ l e)), search needs, c .before .before .before .before .before .before .before .before .before .before .before .before .before .before .before .before .before .before .before .before .before .before .before .before .before .before .before .pre .12))
     (λ c. search needs)
     (λ c. search needs)
     (λ c. search needs)

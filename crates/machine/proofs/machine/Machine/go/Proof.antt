@@ -5,6 +5,8 @@ use native.Mathlib.Omega.{arith}
 use native.Mathlib.Nat.{sub-zero}
 use lib.ListN.{length}
 use borrow.Author.Needs.{needs}
+use Rattle.machine_ops.specs.Found.{Noted}
+use Rattle.machine_ops.proofs.Partners.{noted-none}
 use Rattle.machine_step.specs.Held.{held, code}
 use Rattle.machine_step.specs.Run.{runOf}
 use Rattle.machine.specs.Answer.{numberOf, placeOf}
@@ -14,14 +16,15 @@ use Rattle.machine.proofs.machine.Machine.go.Statement.{statement}
 use Rattle.machine.proofs.machine.Machine.go.Tie as tie
 
 abbrev Inv-loop : tie.InvT-loop
-Inv-loop m₀ kinds counts needs places bytes register₀ tape₀ table₀ channel₀ input output₀ budget calls₀ refs₀ h₀ steps₀ m register tape table channel output calls refs h steps =
+Inv-loop m₀ kinds counts needs places bytes register₀ tape₀ table₀ channel₀ input output₀ budget partners₀ calls₀ refs₀ h₀ steps₀ m register tape table channel output partners calls refs h steps =
     Going bytes input (code kinds counts needs places bytes) (held h calls refs register tape table channel output)
     × (length register ≡ length register₀) × (length tape ≡ length tape₀) × (length table ≡ length table₀) × (length channel ≡ length channel₀) × (length output ≡ length output₀) × (steps ≤ budget)
     × (runOf (budget - steps) steps (code kinds counts needs places bytes) input (held h calls refs register tape table channel output)
     ≡ runOf budget 0 (code kinds counts needs places bytes) input (held h₀ calls₀ refs₀ register₀ tape₀ table₀ channel₀ output₀))
+    × Noted kinds partners
 
 abbrev μ-loop : tie.MeasureT-loop
-μ-loop m₀ kinds counts needs places bytes register₀ tape₀ table₀ channel₀ input output₀ budget calls₀ refs₀ h₀ steps₀ m register tape table channel output calls refs h steps = budget - steps
+μ-loop m₀ kinds counts needs places bytes register₀ tape₀ table₀ channel₀ input output₀ budget partners₀ calls₀ refs₀ h₀ steps₀ m register tape table channel output partners calls refs h steps = budget - steps
 
 returns : tie.Need-returns Inv-loop μ-loop
 unfolding numberOf placeOf

@@ -33,18 +33,23 @@ returns-6 c = rw (c .before .match .keys6, c .else-op .ensures) refl
 
 returns-7 : tie.Need-returns-7
 unfolding controlOf pick
-returns-7 c = rw (ne-eqb _ _ (c .before .match .rest .0 .0 .0 .0 .0 .1), ne-eqb _ _ (c .before .match .rest .0 .0 .0 .0 .1), ne-eqb _ _ (c .before .match .rest .0 .0 .0 .1), ne-eqb _ _ (c .before .match .rest .0 .0 .1), ne-eqb _ _ (c .before .match .rest .0 .1), ne-eqb _ _ (c .before .match .rest .1), c .end .ensures) refl
+returns-7 c = rw (c .before .match .keys7, c .end .ensures) refl
+
+returns-8 : tie.Need-returns-8
+unfolding controlOf pick
+returns-8 c = rw (ne-eqb _ _ (c .before .match .rest .0 .0 .0 .0 .0 .0 .1), ne-eqb _ _ (c .before .match .rest .0 .0 .0 .0 .0 .1), ne-eqb _ _ (c .before .match .rest .0 .0 .0 .0 .1), ne-eqb _ _ (c .before .match .rest .0 .0 .0 .1), ne-eqb _ _ (c .before .match .rest .0 .0 .1), ne-eqb _ _ (c .before .match .rest .0 .1), ne-eqb _ _ (c .before .match .rest .1), c .next .ensures) refl
 
 pub control-spec : {M : Type 1} → statement M
 control-spec =
     tie.close
     (tie.spec
+    (λ c κs. (c .before .before .before .before .before .pre .7 (c .before .match .keys1), search needs, search needs, search needs, search needs))
     (λ c κs. search needs)
     (λ c κs. search needs)
-    (λ c κs. search needs)
-    (λ c κs. search needs)
-    (λ c κs. search needs)
-    (λ c κs. search needs)
+    (λ c κs. (c .before .before .before .before .pre .8 (c .match .keys4), search needs, search needs, search needs))
+    (λ c κs. (c .before .before .before .before .pre .9 (c .match .keys5), search needs, search needs, search needs))
+    (λ c κs. (c .before .before .before .before .pre .10 (c .match .keys6), search needs, search needs))
+    (λ c κs. (c .before .before .before .before .pre .11 (c .match .keys7), search needs, search needs, search needs))
     (λ c κs. search needs)
     (λ c. search needs)
     returns
@@ -54,4 +59,5 @@ control-spec =
     returns-4
     returns-5
     returns-6
-    returns-7)
+    returns-7
+    returns-8)

@@ -6,7 +6,7 @@ use Rattle.machine_ops.proofs.place.Place.else_op.Tie as tie
 
 returns : tie.Need-returns
 unfolding elsesOf
-returns c = simp (c .jump .ensures, ← c .before .jmp-to-end .ensures)
+returns c = simp (c .jump .ensures, ← c .before .before .pre .0)
 
 pub else-op-spec : {M : Type 1} → statement M
-else-op-spec = tie.close (tie.spec (λ c. search needs) (λ c κs. search needs) (λ c κs. search needs) returns)
+else-op-spec = tie.close (tie.spec (λ c κs. search needs) returns)

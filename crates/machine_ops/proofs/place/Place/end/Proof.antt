@@ -12,15 +12,15 @@ returns c = simp (eq-eqb _ _ (c .before .if1 .taken), c .next .ensures)
 
 returns-2 : tie.Need-returns-2
 unfolding endsOf pick
-returns-2 c = simp (le-leb _ _ (c .before .if2 .taken), ne-eqb _ _ (c .before .before .before .if1 .left), c .next2 .ensures, ← c .before .before .get-matching-for-end .ensures)
+returns-2 c = simp (le-leb _ _ (c .before .if2 .taken), ne-eqb _ _ (c .before .before .if1 .left), c .next2 .ensures, ← c .before .before .before .before .before .before .pre .0)
 
 returns-3 : tie.Need-returns-3
 unfolding endsOf pick
-returns-3 c = simp (eq-eqb _ _ (c .before .if3 .taken), lt-leb _ _ (c .before .before .before .if2 .left), ne-eqb _ _ (c .before .before .before .before .before .if1 .left), c .goto .ensures, ← c .before .before .before .before .get-matching-for-end .ensures)
+returns-3 c = simp (eq-eqb _ _ (c .before .if3 .taken), lt-leb _ _ (c .before .before .before .if2 .left), ne-eqb _ _ (c .before .before .before .before .if1 .left), c .goto .ensures, ← c .before .before .before .before .before .before .before .before .pre .0)
 
 returns-4 : tie.Need-returns-4
 unfolding endsOf pick
-returns-4 c = simp (ne-eqb _ _ (c .before .if3 .left), lt-leb _ _ (c .before .before .before .if2 .left), ne-eqb _ _ (c .before .before .before .before .before .if1 .left), c .next3 .ensures, ← c .before .before .before .before .get-matching-for-end .ensures)
+returns-4 c = simp (ne-eqb _ _ (c .before .if3 .left), lt-leb _ _ (c .before .before .before .if2 .left), ne-eqb _ _ (c .before .before .before .before .if1 .left), c .next3 .ensures, ← c .before .before .before .before .before .before .before .before .pre .0)
 
 pub end-spec : {M : Type 1} → statement M
 end-spec =
@@ -29,7 +29,6 @@ end-spec =
     (λ c. search needs)
     (λ c κs. search needs)
     returns
-    (λ c κs. search needs)
     (λ c κs. search needs)
     returns-2
     (λ c. search needs)

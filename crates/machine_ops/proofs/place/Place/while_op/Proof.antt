@@ -8,7 +8,7 @@ use Rattle.machine_ops.proofs.place.Place.while_op.Tie as tie
 
 returns : tie.Need-returns
 unfolding whileOf pick
-returns c = simp (eq-eqb _ _ (c .before .before .if1 .taken), c .jump .ensures, ← c .before .jmp-to-end .ensures)
+returns c = simp (eq-eqb _ _ (c .before .if1 .taken), c .jump .ensures, ← c .before .before .before .before .before .pre .0)
 
 returns-2 : tie.Need-returns-2
 unfolding whileOf pick
@@ -19,8 +19,6 @@ while-op-spec =
     tie.close
     (tie.spec
     (λ c. search needs)
-    (λ c. search needs)
-    (λ c κs. search needs)
     (λ c κs. search needs)
     returns
     (λ c κs. search needs)

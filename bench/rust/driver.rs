@@ -1,0 +1,287 @@
+//! Runs the same patches on our machine and on the Rust, in turn, and prints the table.
+//!
+//!     driver runs FILE REPEATS      FILE has the patches as bench/patches.py writes them
+//!     driver files FILE REPEATS     reads, checks, joins and flattens each of them
+//!
+//! `plain` is the unchanged Rust, and what is timed; `probed` is the same with compare/'s probe below it, which counts steps and shows the state.
+
+use plain::vm::{StandardInterpreter, StandardOp, StandardProgram, TestingDevice, VirtualMachineProgram};
+use probed::patch::Reader;
+use std::hint::black_box;
+use std::time::Instant;
+
+extern "C" {
+    fn feltcairn_run_fresh(
+        bytes: *const u8, bytes_len: usize,
+        register: *mut u64, register_len: usize,
+        tape: *mut u64, tape_len: usize,
+        table: *mut u16, table_len: usize,
+        channel: *mut u64, channel_len: usize,
+        input: *const u64, input_len: usize,
+        output: *mut u64, output_len: usize,
+        budget: u32,
+        answer: *mut u64, answer_len: usize,
+    ) -> usize;
+    fn feltcairn_read(bytes: *const u8, bytes_len: usize, answer: *mut u64, answer_len: usize) -> usize;
+    fn feltcairn_check(bytes: *const u8, bytes_len: usize, answer: *mut u64, answer_len: usize) -> usize;
+    fn feltcairn_join(bytes: *const u8, bytes_len: usize, out: *mut u8, out_len: usize, answer: *mut u64, answer_len: usize) -> usize;
+    fn feltcairn_flatten_numbers(
+        bytes: *const u8, bytes_len: usize,
+        out: *mut u8, out_len: usize,
+        numbers: *mut u32, numbers_len: usize,
+        firsts: *mut u32, firsts_len: usize,
+        counts: *mut u32, counts_len: usize,
+        answer: *mut u64, answer_len: usize,
+    ) -> usize;
+}
+
+/// More steps than any of the patches makes.
+const BUDGET: u32 = 20_000_000;
+
+struct Case {
+    name: String,
+    patch: Vec<u8>,
+    cells: usize,
+    room: usize,
+    inputs: Vec<u64>,
+}
+
+fn cases(bytes: &[u8]) -> Vec<Case> {
+    let mut r = Reader { bytes, at: 0 };
+    let mut found = vec![];
+    while r.at < bytes.len() {
+        let name = String::from_utf8(r.counted().to_vec()).unwrap();
+        let patch = r.counted().to_vec();
+        let (cells, room) = (r.u32(), r.u32());
+        let inputs = (0..r.u32()).map(|_| r.u64()).collect();
+        found.push(Case { name, patch, cells, room, inputs });
+    }
+    found
+}
+
+/// What is lent to a run.
+struct Lent {
+    register: Vec<u64>,
+    tape: Vec<u64>,
+    table: Vec<u16>,
+    channel: Vec<u64>,
+    output: Vec<u64>,
+    answer: [u64; 4],
+}
+
+impl Lent {
+    fn new(c: &Case) -> Lent {
+        Lent { register: vec![0; 1024], tape: vec![0; c.cells], table: vec![0; 256], channel: vec![0; 256], output: vec![0; c.room], answer: [0; 4] }
+    }
+    fn bytes(&self) -> usize {
+        8 * (self.register.len() + self.tape.len() + self.channel.len() + self.output.len()) + 2 * self.table.len()
+    }
+    fn run(&mut self, c: &Case) -> usize {
+        unsafe {
+            feltcairn_run_fresh(
+                c.patch.as_ptr(), c.patch.len(),
+                self.register.as_mut_ptr(), self.register.len(),
+                self.tape.as_mut_ptr(), self.tape.len(),
+                self.table.as_mut_ptr(), self.table.len(),
+                self.channel.as_mut_ptr(), self.channel.len(),
+                c.inputs.as_ptr(), c.inputs.len(),
+                self.output.as_mut_ptr(), self.output.len(),
+                BUDGET,
+                self.answer.as_mut_ptr(), self.answer.len(),
+            )
+        }
+    }
+}
+
+fn is_nan(v: u64) -> bool {
+    f64::from_bits(v).is_nan()
+}
+
+/// The NaN rule: what an op gives that is a NaN is compared as a NaN.
+fn same(a: u64, b: u64) -> bool {
+    a == b || is_nan(a) && is_nan(b)
+}
+
+/// The steps of the patch, once both machines agree on them, on the outputs and on the state they leave.
+fn agreed(c: &Case, lent: &mut Lent) -> u64 {
+    let number = lent.run(c);
+    assert_eq!(number, 0, "{}: our machine answers {number} at {}", c.name, lent.answer[1]);
+    let code = probed::vm::StandardProgram(probed::patch::ops(&c.patch).unwrap().0);
+    let device = probed::vm::TestingDevice::new_raw(c.inputs.iter().map(|v| *v as i64).collect());
+    let mut vm = probed::vm::StandardInterpreter::new(device);
+    let mut steps = 0;
+    while !*vm.parts().done && *vm.parts().i < code.0.len() {
+        vm.one_step(&code).unwrap();
+        steps += 1;
+    }
+    assert_eq!(lent.answer[2], steps, "{}: steps", c.name);
+    let p = vm.parts();
+    for (i, v) in p.register.iter().enumerate() {
+        assert!(same(*v as u64, lent.register[i]), "{}: lane {i}", c.name);
+    }
+    for (i, v) in lent.tape.iter().enumerate() {
+        assert!(same(p.cells.get(i).copied().unwrap_or(0) as u64, *v), "{}: cell {i}", c.name);
+    }
+    let out = p.device.output_vals();
+    assert_eq!(out.len() as u64, lent.answer[3], "{}: outputs", c.name);
+    for (i, v) in out.iter().enumerate() {
+        assert!(same(*v as u64, lent.output[i]), "{}: output {i}", c.name);
+    }
+    steps
+}
+
+/// Nanoseconds of the Rust's own run: the program is built outside, and the interpreter is new each time.
+fn rust_run(code: &StandardProgram, inputs: &[i64]) -> (f64, TestingDevice) {
+    let vm = StandardInterpreter::new(TestingDevice::new_raw(inputs.to_vec()));
+    let start = Instant::now();
+    let device = vm.run(black_box(code)).unwrap();
+    (start.elapsed().as_nanos() as f64, device)
+}
+
+struct Times {
+    ours: Vec<f64>,
+    rust: Vec<f64>,
+}
+
+fn least(v: &[f64]) -> f64 {
+    v.iter().copied().fold(f64::INFINITY, f64::min)
+}
+
+fn sorted(v: &[f64]) -> Vec<f64> {
+    let mut v = v.to_vec();
+    v.sort_by(f64::total_cmp);
+    v
+}
+
+impl Times {
+    fn new() -> Times {
+        Times { ours: vec![], rust: vec![] }
+    }
+    /// The ratio of the least times, and the quarter and three quarters of the ratios of neighbours.
+    fn ratio(&self) -> (f64, f64, f64) {
+        let each = sorted(&self.rust.iter().zip(&self.ours).map(|(r, o)| r / o).collect::<Vec<f64>>());
+        (least(&self.rust) / least(&self.ours), each[each.len() / 4], each[each.len() * 3 / 4])
+    }
+}
+
+fn runs(cases: &[Case], repeats: usize) {
+    let mut all = vec![];
+    for c in cases {
+        let mut lent = Lent::new(c);
+        let steps = agreed(c, &mut lent);
+        let code = StandardProgram(plain::patch::ops(&c.patch).unwrap().0);
+        let inputs: Vec<i64> = c.inputs.iter().map(|v| *v as i64).collect();
+        all.push((c, lent, steps, code, inputs, Times::new()));
+    }
+    for turn in 0..repeats {
+        for (c, lent, _, code, inputs, times) in &mut all {
+            for who in [turn % 2, 1 - turn % 2] {
+                if who == 0 {
+                    let start = Instant::now();
+                    let number = black_box(lent.run(c));
+                    times.ours.push(start.elapsed().as_nanos() as f64);
+                    assert_eq!(number, 0);
+                } else {
+                    let (took, device) = rust_run(code, inputs);
+                    times.rust.push(took);
+                    assert_eq!(device.output_vals().len() as u64, lent.answer[3]);
+                }
+            }
+        }
+    }
+    println!("| Patch | Ops | Steps | Ours, ns a step | Rust, ns a step | Ratio | Middle half of the ratios |");
+    println!("|---|---|---|---|---|---|---|");
+    let (mut logs, mut worst) = (0.0, f64::INFINITY);
+    for (c, _, steps, code, _, times) in &all {
+        let (ratio, low, high) = times.ratio();
+        logs += ratio.ln();
+        worst = worst.min(ratio);
+        let each = |v: &[f64]| least(v) / *steps as f64;
+        println!("| {} | {} | {} | {:.2} | {:.2} | {:.2} | {:.2} to {:.2} |", c.name, code.0.len(), steps, each(&times.ours), each(&times.rust), ratio, low, high);
+    }
+    println!("\nGeometric mean of the ratios: {:.2}; the least: {:.2}.", (logs / all.len() as f64).exp(), worst);
+    println!("Lent by the caller of the largest: {} bytes.", all.iter().map(|a| a.1.bytes()).max().unwrap());
+}
+
+/// Least nanoseconds of one call, in batches that take some 100 microseconds.
+fn timed(mut call: impl FnMut()) -> f64 {
+    let start = Instant::now();
+    call();
+    let batch = (100_000 / (start.elapsed().as_nanos() as usize + 1)).clamp(1, 1000);
+    let start = Instant::now();
+    for _ in 0..batch {
+        call();
+    }
+    start.elapsed().as_nanos() as f64 / batch as f64
+}
+
+fn joined(code: Vec<StandardOp>) -> StandardProgram {
+    let mut joined = StandardProgram(vec![]);
+    for op in code {
+        match op {
+            StandardOp::CoreOp(op) => joined.op(op),
+            op => joined.std_op(op).unwrap(),
+        }
+    }
+    joined
+}
+
+fn files(cases: &[Case], repeats: usize) {
+    println!("| File | Ops | Bytes | Read, us | Check, us | Join, us | the Rust's, us | Ratio | Flatten, us | the Rust's, us | Ratio |");
+    println!("|---|---|---|---|---|---|---|---|---|---|---|");
+    for c in cases {
+        let (bytes, len) = (c.patch.as_ptr(), c.patch.len());
+        let mut out = vec![0u8; len];
+        let mut lists = vec![vec![0u32; 256]; 3];
+        let mut answer = [0u64; 4];
+        let code = plain::patch::ops(&c.patch).unwrap().0;
+        let [mut read, mut check, mut join, mut flatten] = [(); 4].map(|_| Times::new());
+        unsafe {
+            assert_eq!(feltcairn_join(bytes, len, out.as_mut_ptr(), len, answer.as_mut_ptr(), 4), 0);
+            assert_eq!(plain::patch::file(&joined(code.clone()).0), out[..answer[2] as usize], "{}: joined", c.name);
+            let [a, b, d] = &mut lists[..] else { unreachable!() };
+            assert_eq!(feltcairn_flatten_numbers(bytes, len, out.as_mut_ptr(), len, a.as_mut_ptr(), 256, b.as_mut_ptr(), 256, d.as_mut_ptr(), 256, answer.as_mut_ptr(), 4), 0);
+            assert_eq!(plain::patch::file(&StandardProgram(code.clone()).flatten().0), out[..answer[2] as usize], "{}: flattened", c.name);
+        }
+        for _ in 0..repeats {
+            unsafe {
+                read.ours.push(timed(|| { black_box(feltcairn_read(bytes, len, answer.as_mut_ptr(), 4)); }));
+                check.ours.push(timed(|| { black_box(feltcairn_check(bytes, len, answer.as_mut_ptr(), 4)); }));
+                join.ours.push(timed(|| { black_box(feltcairn_join(bytes, len, out.as_mut_ptr(), len, answer.as_mut_ptr(), 4)); }));
+                let [a, b, d] = &mut lists[..] else { unreachable!() };
+                flatten.ours.push(timed(|| {
+                    black_box(feltcairn_flatten_numbers(bytes, len, out.as_mut_ptr(), len, a.as_mut_ptr(), 256, b.as_mut_ptr(), 256, d.as_mut_ptr(), 256, answer.as_mut_ptr(), 4));
+                }));
+            }
+            // what the Rust's calls take as theirs is copied outside the timed part
+            let (mine, theirs) = (code.clone(), StandardProgram(code.clone()));
+            let start = Instant::now();
+            let done = black_box(joined(mine));
+            join.rust.push(start.elapsed().as_nanos() as f64);
+            drop(done);
+            let start = Instant::now();
+            let done = black_box(theirs.flatten());
+            flatten.rust.push(start.elapsed().as_nanos() as f64);
+            drop(done);
+        }
+        let us = |v: &[f64]| least(v) / 1000.0;
+        println!(
+            "| {} | {} | {} | {:.1} | {:.1} | {:.1} | {:.1} | {:.2} | {:.1} | {:.1} | {:.2} |",
+            c.name, code.len(), len, us(&read.ours), us(&check.ours), us(&join.ours), us(&join.rust), join.ratio().0, us(&flatten.ours), us(&flatten.rust), flatten.ratio().0
+        );
+    }
+}
+
+fn main() {
+    let args: Vec<String> = std::env::args().collect();
+    let bytes = std::fs::read(&args[2]).unwrap();
+    let cases = cases(&bytes);
+    let repeats = args[3].parse().unwrap();
+    let work = match &args[1][..] {
+        "runs" => runs,
+        "files" => files,
+        other => panic!("no work {other}"),
+    };
+    // the Rust's `op` calls itself, once for each op at most
+    std::thread::Builder::new().stack_size(256 << 20).spawn(move || work(&cases, repeats)).unwrap().join().unwrap();
+}

@@ -1,0 +1,32 @@
+-- `lanes::lane::cell_numbered` meets its contract: each arm is the definition's own test. Assumes nothing.
+use Rattle.lanes.specs.Lane.{cellNumbered}
+use borrow.Author.Tests.{ne-eqb}
+use mathlib.Core.Path.{refl}
+use Rattle.lanes.proofs.lane.cell_numbered.Statement.{statement}
+use Rattle.lanes.proofs.lane.cell_numbered.Tie as tie
+
+pub cell-numbered-spec : {M : Type 1} → statement M
+unfolding cellNumbered
+cell-numbered-spec =
+    tie.close
+    (tie.spec
+    (λ c. rw (c .match .keys1) refl)
+    (λ c. rw (c .match .keys2) refl)
+    (λ c. rw (c .match .keys3) refl)
+    (λ c. rw (c .match .keys4) refl)
+    (λ c. rw (c .match .keys5) refl)
+    (λ c. rw (c .match .keys6) refl)
+    (λ c. rw (c .match .keys7) refl)
+    (λ c. rw (c .match .keys8) refl)
+    (λ c. rw (c .match .keys9) refl)
+    (λ c. rw (c .match .keys10) refl)
+    (λ c. rw (c .match .keys11) refl)
+    (λ c. rw (c .match .keys12) refl)
+    (λ c. rw (c .match .keys13) refl)
+    (λ c. rw (c .match .keys14) refl)
+    (λ c. rw (c .match .keys15) refl)
+    (λ c. rw (c .match .keys16) refl)
+    (λ c. rw (c .match .keys17) refl)
+    (λ c. rw (c .match .keys18) refl)
+    (λ c. rw (c .match .keys19) refl)
+    (λ c. rw (ne-eqb _ _ (c .match .rest .0 .0 .0 .0 .0 .0 .0 .0 .0 .0 .0 .0 .0 .0 .0 .0 .0 .0 .1), ne-eqb _ _ (c .match .rest .0 .0 .0 .0 .0 .0 .0 .0 .0 .0 .0 .0 .0 .0 .0 .0 .0 .1), ne-eqb _ _ (c .match .rest .0 .0 .0 .0 .0 .0 .0 .0 .0 .0 .0 .0 .0 .0 .0 .0 .1), ne-eqb _ _ (c .match .rest .0 .0 .0 .0 .0 .0 .0 .0 .0 .0 .0 .0 .0 .0 .0 .1), ne-eqb _ _ (c .match .rest .0 .0 .0 .0 .0 .0 .0 .0 .0 .0 .0 .0 .0 .0 .1), ne-eqb _ _ (c .match .rest .0 .0 .0 .0 .0 .0 .0 .0 .0 .0 .0 .0 .0 .1), ne-eqb _ _ (c .match .rest .0 .0 .0 .0 .0 .0 .0 .0 .0 .0 .0 .0 .1), ne-eqb _ _ (c .match .rest .0 .0 .0 .0 .0 .0 .0 .0 .0 .0 .0 .1), ne-eqb _ _ (c .match .rest .0 .0 .0 .0 .0 .0 .0 .0 .0 .0 .1), ne-eqb _ _ (c .match .rest .0 .0 .0 .0 .0 .0 .0 .0 .0 .1), ne-eqb _ _ (c .match .rest .0 .0 .0 .0 .0 .0 .0 .0 .1), ne-eqb _ _ (c .match .rest .0 .0 .0 .0 .0 .0 .0 .1), ne-eqb _ _ (c .match .rest .0 .0 .0 .0 .0 .0 .1), ne-eqb _ _ (c .match .rest .0 .0 .0 .0 .0 .1), ne-eqb _ _ (c .match .rest .0 .0 .0 .0 .1), ne-eqb _ _ (c .match .rest .0 .0 .0 .1), ne-eqb _ _ (c .match .rest .0 .0 .1), ne-eqb _ _ (c .match .rest .0 .1), ne-eqb _ _ (c .match .rest .1)) refl))
