@@ -19,6 +19,7 @@ use Rattle.machine_model.specs.Formed.{Rising}
 use Rattle.machine_model.proofs.Outcomes.{or-right}
 use Rattle.machine_ops.specs.Place.{pick}
 use Rattle.machine_ops.specs.declared.place.Place.{Place}
+use Rattle.machine_ops.specs.Found.{Partnered}
 use Rattle.machine_step.specs.Held.{Held, After, Code}
 use Rattle.machine_step.specs.Step.{stepOf}
 use Rattle.machine_step.specs.View.{view, laid}
@@ -103,15 +104,20 @@ module _ (s input : List ℕ) (c : Held) (h : Fits s input c) where
     fits-on b _ (goes t) r o q a = subst (λ (d : After). Fits s input (d .held)) (sym q) (step-fits s input b t c h r)
     fits-on b _ (stops n z) r o q a = absurd (eqb-false n 0 z (sym (ap (λ (d : After). d .number) q) ∙ a))
 
+pub few-ops : (s input : List ℕ) (x : Code) (c : Held) → Going s input x c → length (x .kinds) ≤ 4096
+few-ops s input x c h =
+    let n : length (x .kinds) ≡ length (patchOf s .items) = ap (λ (y : Code). length (y .kinds)) (h .read) ∙ many-kinds s in
+    omega (arith, n, few-items s)
+
 -- what a step asks
 pub step-asks : (s input : List ℕ) (x : Code) (c : Held) → Going s input x c → overOf (c .place) (length (x .kinds)) ≡ false
+    → (ps : List ℕ) → Partnered (x .kinds) ps
     → (c .place .position < length (x .kinds)) × (length (x .kinds) ≤ 4096) × (1024 ≤ length (c .register)) × (length (c .calls) ≡ 256) × (length (c .refs) ≡ 256)
     × (c .place .functions ≤ length (c .table)) × Rising (take (c .place .functions) (c .table)) × (c .place .depth ≤ 256) × (c .place .saved ≤ 256)
-    × (c .place .pointer ≤ 1000000000) × (c .place .length ≤ 2000000000) × Fine x
-step-asks s input x c h e =
+    × (c .place .pointer ≤ 1000000000) × (c .place .length ≤ 2000000000) × Fine x × Partnered (x .kinds) ps
+step-asks s input x c h e ps q =
     let k = h .fits .counted in let f = h .fits .formed in
-    let n : length (x .kinds) ≡ length (patchOf s .items) = ap (λ (y : Code). length (y .kinds)) (h .read) ∙ many-kinds s in
-    (not-past (c .place) _ e, omega (arith, n, few-items s), k .wide, k .call-room, k .ref-room, k .functions, f .rising, k .depth, k .saved, f .near, f .short, subst (λ (y : Code). Fine y) (sym (h .read)) (fine s))
+    (not-past (c .place) _ e, few-ops s input x c h, k .wide, k .call-room, k .ref-room, k .functions, f .rising, k .depth, k .saved, f .near, f .short, subst (λ (y : Code). Fine y) (sym (h .read)) (fine s), q)
 
 -- what a step leaves where it goes on is good and well formed
 pub going-on : (s input : List ℕ) (x : Code) (c : Held) → Bytes s → Going s input x c → overOf (c .place) (length (x .kinds)) ≡ false

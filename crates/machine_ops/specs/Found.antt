@@ -99,9 +99,9 @@ partnerOf ks i =
     (pick (eqb (getD ks i 0) 7) (endOf ks (i + 1))
     (pick (eqb (getD ks i 0) 8) (openOf ks i) 0))))
 
--- ps begins with the partner of each op
+-- ps, as long as a patch may be, begins with the partner of each op
 pub record Partnered (ks ps : List ℕ) : Type 0 where
-  pub many : length ks ≤ length ps
+  pub many : length ps ≡ 4096
   pub each : (i : ℕ) → i < length ks → getD ps i 0 ≡ partnerOf ks i
 
 -- ---- the table: n places are counted in ts

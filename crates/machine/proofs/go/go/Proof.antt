@@ -9,19 +9,19 @@ use Rattle.machine_step.specs.Held.{held, code}
 use Rattle.machine_step.specs.Run.{runOf}
 use Rattle.machine.specs.Answer.{numberOf, placeOf}
 use Rattle.machine.specs.Going.{Going}
-use Rattle.machine.proofs.Turns.{run-done, run-spent, run-on, run-refused, step-asks, bytes-of, going-on}
+use Rattle.machine.proofs.Turns.{run-done, run-spent, run-on, run-refused, few-ops, step-asks, bytes-of, going-on}
 use Rattle.machine.proofs.go.go.Statement.{statement}
 use Rattle.machine.proofs.go.go.Tie as tie
 
 abbrev Inv-loop : tie.InvT-loop
-Inv-loop kinds counts needs places bytes register₀ tape₀ table₀ channel₀ input output₀ budget calls₀ refs₀ h₀ steps₀ register tape table channel output calls refs h steps =
+Inv-loop kinds counts needs places bytes register₀ tape₀ table₀ channel₀ input output₀ budget partners calls₀ refs₀ h₀ steps₀ register tape table channel output calls refs h steps =
     Going bytes input (code kinds counts needs places bytes) (held h calls refs register tape table channel output)
     × (length register ≡ length register₀) × (length tape ≡ length tape₀) × (length table ≡ length table₀) × (length channel ≡ length channel₀) × (length output ≡ length output₀) × (steps ≤ budget)
     × (runOf (budget - steps) steps (code kinds counts needs places bytes) input (held h calls refs register tape table channel output)
     ≡ runOf budget 0 (code kinds counts needs places bytes) input (held h₀ calls₀ refs₀ register₀ tape₀ table₀ channel₀ output₀))
 
 abbrev μ-loop : tie.MeasureT-loop
-μ-loop kinds counts needs places bytes register₀ tape₀ table₀ channel₀ input output₀ budget calls₀ refs₀ h₀ steps₀ register tape table channel output calls refs h steps = budget - steps
+μ-loop kinds counts needs places bytes register₀ tape₀ table₀ channel₀ input output₀ budget partners calls₀ refs₀ h₀ steps₀ register tape table channel output calls refs h steps = budget - steps
 
 returns : tie.Need-returns Inv-loop μ-loop
 unfolding numberOf placeOf
@@ -29,11 +29,11 @@ returns c = sym (run-done _ _ _ _ _ (sym (c .before .over .ensures) ∙ c .if1 .
 
 returns-2 : tie.Need-returns-2 Inv-loop μ-loop
 unfolding numberOf placeOf
-returns-2 c = sym (run-spent _ _ _ (sym (c .before .before .over .ensures) ∙ c .before .if1 .left) (c .before .before .before .before .before .before .before .before .before .before .before .before .before .before .before .before .before .before .args .budget - c .before .before .before .loop .steps) _ (omega arith)) ∙ c .before .before .before .loop .inv .7
+returns-2 c = sym (run-spent _ _ _ (sym (c .before .before .over .ensures) ∙ c .before .if1 .left) (c .before .before .before .before .before .before .before .before .before .before .before .before .before .before .before .before .before .before .before .before .args .budget - c .before .before .before .loop .steps) _ (omega arith)) ∙ c .before .before .before .loop .inv .7
 
 returns-3 : tie.Need-returns-3 Inv-loop μ-loop
 unfolding numberOf placeOf
-returns-3 c = sym (run-refused _ _ _ (sym (c .before .before .before .before .before .before .before .before .before .before .before .before .before .before .before .before .before .before .before .before .before .before .over .ensures) ∙ c .before .before .before .before .before .before .before .before .before .before .before .before .before .before .before .before .before .before .before .before .before .if1 .left) (c .before .before .before .before .before .before .before .before .before .before .before .before .before .before .before .before .before .before .before .before .before .before .before .before .before .before .before .before .before .before .before .before .before .before .before .before .before .before .args .budget) (c .before .before .before .before .before .before .before .before .before .before .before .before .before .before .before .before .before .before .before .before .before .before .before .loop .steps) (omega (arith, c .before .before .before .before .before .before .before .before .before .before .before .before .before .before .before .before .before .before .before .before .if2 .left, c .before .before .before .before .before .before .before .before .before .before .before .before .before .before .before .before .before .before .before .before .before .before .before .loop .inv .6)) _ (c .before .before .before .before .before .before .before .before .before .before .before .before .step .ensures) (c .if3 .taken)) ∙ c .before .before .before .before .before .before .before .before .before .before .before .before .before .before .before .before .before .before .before .before .before .before .before .loop .inv .7
+returns-3 c = sym (run-refused _ _ _ (sym (c .before .before .before .before .before .before .before .before .before .before .before .before .before .before .before .before .before .before .before .before .before .before .before .over .ensures) ∙ c .before .before .before .before .before .before .before .before .before .before .before .before .before .before .before .before .before .before .before .before .before .before .if1 .left) (c .before .before .before .before .before .before .before .before .before .before .before .before .before .before .before .before .before .before .before .before .before .before .before .before .before .before .before .before .before .before .before .before .before .before .before .before .before .before .before .before .before .args .budget) (c .before .before .before .before .before .before .before .before .before .before .before .before .before .before .before .before .before .before .before .before .before .before .before .before .loop .steps) (omega (arith, c .before .before .before .before .before .before .before .before .before .before .before .before .before .before .before .before .before .before .before .before .before .if2 .left, c .before .before .before .before .before .before .before .before .before .before .before .before .before .before .before .before .before .before .before .before .before .before .before .before .loop .inv .6)) _ (c .before .before .before .before .before .before .before .before .before .before .before .before .step .ensures) (c .if3 .taken)) ∙ c .before .before .before .before .before .before .before .before .before .before .before .before .before .before .before .before .before .before .before .before .before .before .before .before .loop .inv .7
 
 pub go-spec : {M : Type 1} → statement M
 go-spec =
@@ -41,7 +41,8 @@ go-spec =
     (tie.spec
     Inv-loop
     μ-loop
-    (λ c. (c .before .before .before .before .before .before .before .before .before .before .before .before .before .before .pre, refl, refl, refl, refl, refl, search needs, rw sub-zero refl))
+    (λ c κs. (few-ops _ _ _ _ (c .before .before .before .before .before .before .before .before .before .before .before .before .pre), search needs))
+    (λ c. (c .before .before .before .before .before .before .before .before .before .before .before .before .before .before .before .before .pre, refl, refl, refl, refl, refl, search needs, rw sub-zero refl))
     (λ c κs. search needs)
     (λ c. search needs)
     (λ c. search needs)
@@ -55,13 +56,14 @@ go-spec =
     (λ c. search needs)
     (λ c. search needs)
     returns-2
-    (λ c κs. step-asks _ _ _ _ (c .before .before .before .before .before .before .before .before .before .before .loop .inv .0) (sym (c .before .before .before .before .before .before .before .before .before .over .ensures) ∙ c .before .before .before .before .before .before .before .before .if1 .left))
+    (λ c. sym (c .before .before .before .before .before .before .before .before .find-partners .ensures .many))
+    (λ c κs. step-asks _ _ _ _ (c .before .before .before .before .before .before .before .before .before .before .before .loop .inv .0) (sym (c .before .before .before .before .before .before .before .before .before .before .over .ensures) ∙ c .before .before .before .before .before .before .before .before .before .if1 .left) _ (c .before .before .before .before .before .before .before .before .before .before .before .before .before .before .before .find-partners .ensures))
     (λ c. search needs)
     (λ c. search needs)
     (λ c. search needs)
     (λ c. search needs)
     (λ c. search needs)
     returns-3
-    (λ c. omega (arith, c .before .before .before .before .before .before .before .before .before .before .before .before .before .before .before .before .before .before .before .before .if2 .left, c .before .before .before .before .before .before .before .before .before .before .before .before .before .before .before .before .before .before .before .before .before .before .before .loop .inv .6, c .before .before .before .before .before .before .before .before .before .before .before .before .before .before .before .before .before .before .before .before .before .before .before .before .before .before .before .before .before .before .before .before .before .before .before .before .before .before .fits .budget))
+    (λ c. omega (arith, c .before .before .before .before .before .before .before .before .before .before .before .before .before .before .before .before .before .before .before .before .before .if2 .left, c .before .before .before .before .before .before .before .before .before .before .before .before .before .before .before .before .before .before .before .before .before .before .before .before .loop .inv .6, c .before .before .before .before .before .before .before .before .before .before .before .before .before .before .before .before .before .before .before .before .before .before .before .before .before .before .before .before .before .before .before .before .before .before .before .before .before .before .before .before .before .fits .budget))
     (λ c. search needs)
-    (λ c. (going-on (c .before .before .before .before .before .before .before .before .before .before .before .before .before .before .before .before .before .before .before .before .before .before .before .before .before .before .before .before .before .before .before .before .before .before .before .before .before .before .args .bytes .now) _ _ _ (bytes-of _ (c .before .before .before .before .before .before .before .before .before .before .before .before .before .before .before .before .before .before .before .before .before .before .before .before .before .before .before .before .before .before .before .before .before .shared-slice-known5 .given)) (c .before .before .before .before .before .before .before .before .before .before .before .before .before .before .before .before .before .before .before .before .before .before .before .loop .inv .0) (sym (c .before .before .before .before .before .before .before .before .before .before .before .before .before .before .before .before .before .before .before .before .before .before .over .ensures) ∙ c .before .before .before .before .before .before .before .before .before .before .before .before .before .before .before .before .before .before .before .before .before .if1 .left) _ (c .before .before .before .before .before .before .before .before .before .before .before .before .step .ensures) (c .if3 .left), omega arith, omega arith, omega arith, omega arith, omega arith, omega (arith, c .before .before .before .before .before .before .before .before .before .before .before .before .before .before .before .before .before .before .before .before .if2 .left, c .before .before .before .before .before .before .before .before .before .before .before .before .before .before .before .before .before .before .before .before .before .before .before .loop .inv .6), run-on _ _ _ (sym (c .before .before .before .before .before .before .before .before .before .before .before .before .before .before .before .before .before .before .before .before .before .before .over .ensures) ∙ c .before .before .before .before .before .before .before .before .before .before .before .before .before .before .before .before .before .before .before .before .before .if1 .left) (c .before .before .before .before .before .before .before .before .before .before .before .before .before .before .before .before .before .before .before .before .before .before .before .before .before .before .before .before .before .before .before .before .before .before .before .before .before .before .args .budget) (c .before .before .before .before .before .before .before .before .before .before .before .before .before .before .before .before .before .before .before .before .before .before .before .loop .steps) (omega (arith, c .before .before .before .before .before .before .before .before .before .before .before .before .before .before .before .before .before .before .before .before .if2 .left, c .before .before .before .before .before .before .before .before .before .before .before .before .before .before .before .before .before .before .before .before .before .before .before .loop .inv .6)) _ (c .before .before .before .before .before .before .before .before .before .before .before .before .step .ensures) (c .if3 .left) ∙ c .before .before .before .before .before .before .before .before .before .before .before .before .before .before .before .before .before .before .before .before .before .before .before .loop .inv .7)))
+    (λ c. (going-on (c .before .before .before .before .before .before .before .before .before .before .before .before .before .before .before .before .before .before .before .before .before .before .before .before .before .before .before .before .before .before .before .before .before .before .before .before .before .before .before .before .before .args .bytes .now) _ _ _ (bytes-of _ (c .before .before .before .before .before .before .before .before .before .before .before .before .before .before .before .before .before .before .before .before .before .before .before .before .before .before .before .before .before .before .before .before .before .before .before .before .shared-slice-known5 .given)) (c .before .before .before .before .before .before .before .before .before .before .before .before .before .before .before .before .before .before .before .before .before .before .before .before .loop .inv .0) (sym (c .before .before .before .before .before .before .before .before .before .before .before .before .before .before .before .before .before .before .before .before .before .before .before .over .ensures) ∙ c .before .before .before .before .before .before .before .before .before .before .before .before .before .before .before .before .before .before .before .before .before .before .if1 .left) _ (c .before .before .before .before .before .before .before .before .before .before .before .before .step .ensures) (c .if3 .left), omega arith, omega arith, omega arith, omega arith, omega arith, omega (arith, c .before .before .before .before .before .before .before .before .before .before .before .before .before .before .before .before .before .before .before .before .before .if2 .left, c .before .before .before .before .before .before .before .before .before .before .before .before .before .before .before .before .before .before .before .before .before .before .before .before .loop .inv .6), run-on _ _ _ (sym (c .before .before .before .before .before .before .before .before .before .before .before .before .before .before .before .before .before .before .before .before .before .before .before .over .ensures) ∙ c .before .before .before .before .before .before .before .before .before .before .before .before .before .before .before .before .before .before .before .before .before .before .if1 .left) (c .before .before .before .before .before .before .before .before .before .before .before .before .before .before .before .before .before .before .before .before .before .before .before .before .before .before .before .before .before .before .before .before .before .before .before .before .before .before .before .before .before .args .budget) (c .before .before .before .before .before .before .before .before .before .before .before .before .before .before .before .before .before .before .before .before .before .before .before .before .loop .steps) (omega (arith, c .before .before .before .before .before .before .before .before .before .before .before .before .before .before .before .before .before .before .before .before .before .if2 .left, c .before .before .before .before .before .before .before .before .before .before .before .before .before .before .before .before .before .before .before .before .before .before .before .before .loop .inv .6)) _ (c .before .before .before .before .before .before .before .before .before .before .before .before .step .ensures) (c .if3 .left) ∙ c .before .before .before .before .before .before .before .before .before .before .before .before .before .before .before .before .before .before .before .before .before .before .before .before .loop .inv .7)))

@@ -1,7 +1,7 @@
 -- `machine::go::once` meets its contract. Assumes nothing.
 use mathlib.Core.Path.{_∙_, sym}
 use Rattle.machine.specs.Answer.{numberOf, placeOf}
-use Rattle.machine.proofs.Turns.{step-asks, once-done, once-made, once-went}
+use Rattle.machine.proofs.Turns.{few-ops, step-asks, once-done, once-made, once-went}
 use borrow.Author.Needs.{needs}
 use Rattle.machine.proofs.go.once.Statement.{statement}
 use Rattle.machine.proofs.go.once.Tie as tie
@@ -12,11 +12,11 @@ returns c = once-done _ _ _ (sym (c .before .over .ensures) ∙ c .if1 .taken)
 
 returns-2 : tie.Need-returns-2
 unfolding numberOf placeOf
-returns-2 c = once-made _ _ _ (sym (c .before .before .before .before .before .before .before .before .before .before .before .before .before .before .before .before .before .before .before .before .before .over .ensures) ∙ c .before .before .before .before .before .before .before .before .before .before .before .before .before .before .before .before .before .before .before .before .if1 .left) _ (c .before .before .before .before .before .before .before .before .before .before .before .before .step .ensures)
+returns-2 c = once-made _ _ _ (sym (c .before .before .before .before .before .before .before .before .before .before .before .before .before .before .before .before .before .before .before .before .before .before .before .before .over .ensures) ∙ c .before .before .before .before .before .before .before .before .before .before .before .before .before .before .before .before .before .before .before .before .before .before .before .if1 .left) _ (c .before .before .before .before .before .before .before .before .before .before .before .before .step .ensures)
 
 returns-3 : tie.Need-returns-3
 unfolding numberOf placeOf
-returns-3 c = once-went _ _ _ (sym (c .before .before .before .before .before .before .before .before .before .before .before .before .before .before .before .before .before .before .before .before .before .over .ensures) ∙ c .before .before .before .before .before .before .before .before .before .before .before .before .before .before .before .before .before .before .before .before .if1 .left) _ (c .before .before .before .before .before .before .before .before .before .before .before .before .step .ensures) (c .if2 .left)
+returns-3 c = once-went _ _ _ (sym (c .before .before .before .before .before .before .before .before .before .before .before .before .before .before .before .before .before .before .before .before .before .before .before .before .over .ensures) ∙ c .before .before .before .before .before .before .before .before .before .before .before .before .before .before .before .before .before .before .before .before .before .before .before .if1 .left) _ (c .before .before .before .before .before .before .before .before .before .before .before .before .step .ensures) (c .if2 .left)
 
 pub once-spec : {M : Type 1} → statement M
 once-spec =
@@ -24,7 +24,9 @@ once-spec =
     (tie.spec
     (λ c κs. search needs)
     returns
-    (λ c κs. step-asks _ _ _ _ (c .before .before .before .before .before .before .before .before .before .before .before .before .before .before .before .before .before .before .before .before .before .before .before .pre) (sym (c .before .before .before .before .before .before .before .before .over .ensures) ∙ c .before .before .before .before .before .before .before .if1 .left))
+    (λ c κs. (few-ops _ _ _ _ (c .before .before .before .before .before .before .before .before .before .before .before .before .before .before .before .before .before .pre), search needs))
+    (λ c. sym (c .before .find-partners .ensures .many))
+    (λ c κs. step-asks _ _ _ _ (c .before .before .before .before .before .before .before .before .before .before .before .before .before .before .before .before .before .before .before .before .before .before .before .before .before .before .pre) (sym (c .before .before .before .before .before .before .before .before .before .before .before .over .ensures) ∙ c .before .before .before .before .before .before .before .before .before .before .if1 .left) _ (c .before .before .before .before .before .before .before .before .find-partners .ensures))
     (λ c. search needs)
     (λ c. search needs)
     (λ c. search needs)
