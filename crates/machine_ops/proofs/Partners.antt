@@ -16,8 +16,8 @@ pub found-on : (ks ps : List ℕ) (i v : ℕ) → i < length ps → ((j : ℕ) �
 found-on ks ps i v h before e j l = ⊎-elim
     (λ (b : j < i). getD-set-other ps i j v 0 (λ (q : j ≡ i). omega arith) ∙ before j b)
     (λ (g : i ≤ j).
-      let q : j ≡ i = omega arith in
-      ap (λ (n : ℕ). getD (set ps i v) n 0) q ∙ getD-set-same ps i v 0 h ∙ e ∙ ap (partnerOf ks) (sym q))
+    let q : j ≡ i = omega arith in
+    ap (λ (n : ℕ). getD (set ps i v) n 0) q ∙ getD-set-same ps i v 0 h ∙ e ∙ ap (partnerOf ks) (sym q))
     (lt-or-ge j i)
 
 module _ (ks ps : List ℕ) (p : Partnered ks ps) (i : ℕ) (h : i < length ks) where
