@@ -103,7 +103,7 @@ def lanes(times, n, first, second, ops, kind):
 
 
 INTS = [ADD, SUB, MUL, DIV, BXOR, NEG, REM, BAND, INC, LSH, BOR, DEC, LRSH, NAND, BNOT, ARSH, INDEX, GEZ, AND, NOT, OR]
-FLOATS = [ADDF, MULF, SUBF, DIVF, NEGF, ADDF, REMF, MULF, GEZF, TOINT, TOFLOAT, MULF]
+FLOATS = [ADDF, MULF, SUBF, DIVF, NEGF, ADDF, REMF, MULF, GEZF]
 
 
 def times(n, ops):
@@ -209,6 +209,11 @@ def mixed(n):
             out += [op(SET, 1), op(IF), op(SET, 2), op(ELSE), op(END)]
         out += [op(LOAD, 8)]
     return out + [op(INC, 1)] * (n - len(out))
+
+
+def elses(n):
+    """Elses and an End: the join that takes back the most."""
+    return [op(ELSE)] * (n - 1) + [op(END)]
 
 
 def write(cases, out):

@@ -2,6 +2,7 @@
 //!
 //!     driver runs FILE REPEATS      FILE has the patches as bench/patches.py writes them
 //!     driver files FILE REPEATS     reads, checks, joins and flattens each of them
+//!     driver stack FILE REPEATS     the stack that each call writes to at the most
 //!
 //! `plain` is the unchanged Rust, and what is timed; `probed` is the same with compare/'s probe below it, which counts steps and shows the state.
 
@@ -272,6 +273,54 @@ fn files(cases: &[Case], repeats: usize) {
     }
 }
 
+/// How far below this frame the call writes: the stack below is filled with a pattern first, and looked at after.
+#[inline(never)]
+fn stack_of(mut call: impl FnMut()) -> usize {
+    const DEEP: usize = 4 << 20;
+    const PATTERN: u64 = 0xA5A5_5A5A_A5A5_5A5A;
+    let here = 0u64;
+    let top = &here as *const u64 as usize;
+    let low = (top - DEEP) & !7;
+    for at in (low..top - 4096).step_by(8) {
+        unsafe { (at as *mut u64).write_volatile(PATTERN) }
+    }
+    call();
+    let touched = (low..top).step_by(8).find(|at| unsafe { (*at as *const u64).read_volatile() } != PATTERN).unwrap();
+    top - touched
+}
+
+fn stack(cases: &[Case], _: usize) {
+    let mut most = [0; 5];
+    for c in cases {
+        let (bytes, len) = (c.patch.as_ptr(), c.patch.len());
+        let mut lent = Lent::new(c);
+        let mut out = vec![0u8; len];
+        let mut lists = vec![vec![0u32; 256]; 3];
+        let mut answer = [0u64; 4];
+        let at = answer.as_mut_ptr();
+        let [a, b, d] = &mut lists[..] else { unreachable!() };
+        let used = unsafe {
+            [
+                stack_of(|| { lent.run(c); }),
+                stack_of(|| { feltcairn_read(bytes, len, at, 4); }),
+                stack_of(|| { feltcairn_check(bytes, len, at, 4); }),
+                stack_of(|| { feltcairn_join(bytes, len, out.as_mut_ptr(), len, at, 4); }),
+                stack_of(|| {
+                    feltcairn_flatten_numbers(bytes, len, out.as_mut_ptr(), len, a.as_mut_ptr(), 256, b.as_mut_ptr(), 256, d.as_mut_ptr(), 256, at, 4);
+                }),
+            ]
+        };
+        for (m, u) in most.iter_mut().zip(used) {
+            *m = u.max(*m);
+        }
+    }
+    println!("| Call | Stack, bytes |");
+    println!("|---|---|");
+    for (name, m) in ["run_fresh", "read", "check", "join", "flatten_numbers"].iter().zip(most) {
+        println!("| {name} | {m} |");
+    }
+}
+
 fn main() {
     let args: Vec<String> = std::env::args().collect();
     let bytes = std::fs::read(&args[2]).unwrap();
@@ -280,6 +329,7 @@ fn main() {
     let work = match &args[1][..] {
         "runs" => runs,
         "files" => files,
+        "stack" => stack,
         other => panic!("no work {other}"),
     };
     // the Rust's `op` calls itself, once for each op at most

@@ -1,33 +1,23 @@
-// The machine's calls for programs in C or Rust to link. Each gives back its number, and writes its numbers to the start of `answer`, as many of
-// them as it has room for: number and place first, then what the call gives besides.
+// The machine's calls for programs in C or Rust to link. A slice is a pointer and a length. Each call gives back its number, and writes its numbers to
+// the start of `answer`, as many of them as it has room for: number and place first, then what the call gives besides.
 ghost use mathlib.Core.Path.{_≡_};
 ghost use Rattle.ops.specs.Patch.{patchOf, readOf};
 ghost use Rattle.machine.specs.Calls.{freshOver};
 ghost use Rattle.patch_check.specs.File.{checkOf};
 ghost use Rattle.joining.specs.Joined.{joinOf};
 ghost use Rattle.flattening.specs.Flattened.{flattenOf};
-ghost use Rattle.linked.specs.Linked.{told, ofRead, ofCheck, ran, ofRun, joined, ofJoin, flattened, ofFlatten};
-use flattening::answer::Flattened;
-use joining::join::Joined;
+ghost use Rattle.linked.specs.Linked.{given, ofRead, ofCheck, run, ofRun, join, ofJoin, flatten, ofFlatten};
+use crate::answer::tell;
 use machine::machine::Machine;
 
-// As many of the values as have room, to the start of `answer`.
-fn tell(answer: &mut [u64], values: &[u64])
-    ensures { λ _. ⌜ now (answer .exit) ≡ told (now (values .entry)) (now (answer .entry)) ⌝ }
-{
-    let n = values.len();
-    let room = answer.len();
-    if room < n {
-        lanes::loops::copy_lanes(answer, values, room);
-        return;
-    }
-    lanes::loops::copy_lanes(answer, values, n);
-}
+pub mod answer; // what is written to `answer`
+pub mod joined; // the numbers of what joining answers
+pub mod flattened; // the bytes and bodies of what flattening answers
 
 // Whether a file is good: number, place, and the ops read.
 #[no_mangle]
 pub extern "C" fn feltcairn_read(bytes: &[u8], answer: &mut [u64]) -> usize
-    ensures { λ r. ⌜ told r (now (answer .exit)) ≡ ofRead (readOf (patchOf (now (bytes .entry)))) (now (answer .entry)) ⌝ }
+    ensures { λ r. ⌜ given r (now (answer .exit)) ≡ ofRead (readOf (patchOf (now (bytes .entry)))) (now (answer .entry)) ⌝ }
 {
     let r = ops::reader::read_patch(bytes);
     let number = r.number;
@@ -38,7 +28,9 @@ pub extern "C" fn feltcairn_read(bytes: &[u8], answer: &mut [u64]) -> usize
 
 // The check: number and place.
 #[no_mangle]
-pub extern "C" fn feltcairn_check(bytes: &[u8], answer: &mut [u64]) -> usize {
+pub extern "C" fn feltcairn_check(bytes: &[u8], answer: &mut [u64]) -> usize
+    ensures { λ r. ⌜ given r (now (answer .exit)) ≡ ofCheck (checkOf (now (bytes .entry))) (now (answer .entry)) ⌝ }
+{
     let v = patch_check::check::check(bytes);
     let number = patch_check::verdict::number_of(v);
     let place = patch_check::verdict::place_of(v);
@@ -59,7 +51,9 @@ pub extern "C" fn feltcairn_run_fresh(
     output: &mut [u64],
     budget: u32,
     answer: &mut [u64],
-) -> usize {
+) -> usize
+    ensures { λ r. ⌜ run r (now (answer .exit)) (now (register .exit)) (now (tape .exit)) (now (table .exit)) (now (channel .exit)) (now (output .exit)) ≡ ofRun (freshOver (now (bytes .entry)) (now (input .entry)) budget (now (register .entry)) (now (tape .entry)) (now (table .entry)) (now (channel .entry)) (now (output .entry))) (now (answer .entry)) ⌝ }
+{
     let r = Machine::run_fresh(bytes, register, tape, table, channel, input, output, budget);
     let a = r.answer;
     let h = r.machine.place;
@@ -77,72 +71,16 @@ pub extern "C" fn feltcairn_run_fresh(
 
 // Joining: number, place, and the bytes written.
 #[no_mangle]
-pub extern "C" fn feltcairn_join(bytes: &[u8], out: &mut [u8], answer: &mut [u64]) -> usize {
+pub extern "C" fn feltcairn_join(bytes: &[u8], out: &mut [u8], answer: &mut [u64]) -> usize
+    ensures { λ r. ⌜ join r (now (answer .exit)) (now (out .exit)) ≡ ofJoin (joinOf (now (bytes .entry)) (now (out .entry))) (now (answer .entry)) ⌝ }
+{
     let r = joining::join::join(bytes, out);
-    let number = joined_number(r);
-    let told = [
-        number as u64,
-        joined_place(r) as u64,
-        joined_bytes(r) as u64,
-    ];
+    let number = joined::number_of(r);
+    let place = joined::place_of(r);
+    let length = joined::length_of(r);
+    let told = [number as u64, place as u64, length as u64];
     tell(answer, &told);
     number
-}
-
-fn joined_number(r: Joined) -> usize {
-    match r {
-        Joined::BadFile(number, _) => number,
-        Joined::NoRoom => 40,
-        Joined::Written(_, _) => 0,
-    }
-}
-
-fn joined_place(r: Joined) -> usize {
-    match r {
-        Joined::BadFile(_, place) => place,
-        Joined::NoRoom => 0,
-        Joined::Written(ops, _) => ops,
-    }
-}
-
-fn joined_bytes(r: Joined) -> usize {
-    match r {
-        Joined::BadFile(_, _) => 0,
-        Joined::NoRoom => 0,
-        Joined::Written(_, bytes) => bytes,
-    }
-}
-
-fn flattened_bytes(r: Flattened) -> usize {
-    match r {
-        Flattened::BadFile {
-            number: _,
-            place: _,
-        } => 0,
-        Flattened::NoOpenEnd { op: _ } => 0,
-        Flattened::NoRoom => 0,
-        Flattened::Written {
-            ops: _,
-            bytes,
-            bodies: _,
-        } => bytes,
-    }
-}
-
-fn flattened_bodies(r: Flattened) -> usize {
-    match r {
-        Flattened::BadFile {
-            number: _,
-            place: _,
-        } => 0,
-        Flattened::NoOpenEnd { op: _ } => 0,
-        Flattened::NoRoom => 0,
-        Flattened::Written {
-            ops: _,
-            bytes: _,
-            bodies,
-        } => bodies,
-    }
 }
 
 // Flattening: number, place, the bytes and the bodies written.
@@ -154,16 +92,15 @@ pub extern "C" fn feltcairn_flatten_numbers(
     firsts: &mut [u32],
     counts: &mut [u32],
     answer: &mut [u64],
-) -> usize {
+) -> usize
+    ensures { λ r. ⌜ flatten r (now (answer .exit)) (now (out .exit)) (now (numbers .exit)) (now (firsts .exit)) (now (counts .exit)) ≡ ofFlatten (flattenOf (now (bytes .entry)) (now (out .entry)) (now (numbers .entry)) (now (firsts .entry)) (now (counts .entry))) (now (answer .entry)) ⌝ }
+{
     let r = flattening::flatten::flatten(bytes, out, numbers, firsts, counts);
     let number = flattening::answer::number_of(r);
     let place = flattening::answer::place_of(r);
-    let told = [
-        number as u64,
-        place as u64,
-        flattened_bytes(r) as u64,
-        flattened_bodies(r) as u64,
-    ];
+    let length = flattened::bytes_of(r);
+    let bodies = flattened::bodies_of(r);
+    let told = [number as u64, place as u64, length as u64, bodies as u64];
     tell(answer, &told);
     number
 }

@@ -1,0 +1,23 @@
+-- `linked::feltcairn_flatten_numbers` meets its contract: flattening's, and what is told of it. Assumes nothing.
+use mathlib.Core.Path.{refl}
+use borrow.Author.Needs.{needs}
+use Rattle.linked.proofs.feltcairn_flatten_numbers.Statement.{statement}
+use Rattle.linked.proofs.feltcairn_flatten_numbers.Tie as tie
+
+pub feltcairn-flatten-numbers-spec : {M : Type 1} → statement M
+feltcairn-flatten-numbers-spec =
+    tie.close
+    (tie.spec
+    (λ c κs. search needs)
+    (λ c κs. search needs)
+    (λ c κs. search needs)
+    (λ c κs. search needs)
+    (λ c κs. search needs)
+    (λ c. search needs)
+    (λ c κs. search needs)
+    (λ c. search needs)
+    (λ c. search needs)
+    (λ c. search needs)
+    (λ c. search needs)
+    (λ c. search needs)
+    (λ c. rw (← c .before .before .before .before .before .before .before .before .before .before .before .before .before .before .before .before .before .flatten .ensures, c .before .before .tell .ensures, c .before .before .before .before .before .before .before .before .number-of .ensures, c .before .before .before .before .before .before .before .place-of .ensures, c .before .before .before .before .before .before .bytes-of .ensures, c .before .before .before .before .before .bodies-of .ensures) refl))

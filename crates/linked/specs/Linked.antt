@@ -1,0 +1,80 @@
+-- What the calls for linking give back: the number, what is written to `answer`, and what the call itself leaves of what it was lent. Assumes nothing.
+use mathlib.Core.Bool.{cond}
+use mathlib.Core.List.{List, [], _∷_}
+use Prim.Native.Nat.{ℕ}
+use lib.Dec.{ltb}
+use lib.ListN.{length}
+use Rattle.lanes.specs.Lane.{zipTo, beside}
+use Rattle.ops.specs.declared.reader.Read.{Read}
+use Rattle.machine_step.specs.Run.{Ran}
+use Rattle.patch_check.specs.Verdict as verdict
+use Rattle.patch_check.specs.declared.verdict.Verdict.{Verdict}
+use Rattle.joining.specs.Joined as joined
+use Rattle.flattening.specs.Flattened as flattened
+
+-- as many of the values as have room, at the start; what is beyond them stays
+unfoldable pub told : List ℕ → List ℕ → List ℕ
+told vs a = cond (ltb (length a) (length vs)) (zipTo beside (length a) a vs) (zipTo beside (length vs) a vs)
+
+-- ---- the number given back, and `answer`
+pub record Given : Type 0 where
+  pub number : ℕ
+  pub answer : List ℕ
+
+abbrev pub given : ℕ → List ℕ → Given
+given n a = record { number = n; answer = a }
+
+-- number, place, and the ops read
+abbrev pub ofRead : Read → List ℕ → Given
+ofRead r a = given (r .number) (told (r .number ∷ r .place ∷ r .ops ∷ []) a)
+
+-- number and place
+abbrev pub ofCheck : Verdict → List ℕ → Given
+ofCheck v a = given (verdict.numberOf v) (told (verdict.numberOf v ∷ verdict.placeOf v ∷ []) a)
+
+-- ---- the run: number, place, steps and the count of outputs; and the lent slices
+pub record Run : Type 0 where
+  pub given : Given
+  pub register : List ℕ
+  pub tape : List ℕ
+  pub table : List ℕ
+  pub channel : List ℕ
+  pub output : List ℕ
+
+abbrev pub run : ℕ → List ℕ → List ℕ → List ℕ → List ℕ → List ℕ → List ℕ → Run
+run n a g t ts ch o = record { given = given n a; register = g; tape = t; table = ts; channel = ch; output = o }
+
+abbrev pub ofRun : Ran → List ℕ → Run
+ofRun r a =
+    run (r .number) (told (r .number ∷ r .place ∷ r .steps ∷ r .held .place .written ∷ []) a)
+    (r .held .register) (r .held .tape) (r .held .table) (r .held .channel) (r .held .output)
+
+-- ---- joining: number, place and the bytes written; and the lent bytes
+pub record Join : Type 0 where
+  pub given : Given
+  pub out : List ℕ
+
+abbrev pub join : ℕ → List ℕ → List ℕ → Join
+join n a s = record { given = given n a; out = s }
+
+abbrev pub ofJoin : joined.Outcome → List ℕ → Join
+ofJoin r a =
+    join (joined.numberOf (r .answer))
+    (told (joined.numberOf (r .answer) ∷ joined.placeOf (r .answer) ∷ joined.lengthOf (r .answer) ∷ []) a) (r .bytes)
+
+-- ---- flattening: number, place, the bytes and the bodies written; and the lent bytes and lists
+pub record Flatten : Type 0 where
+  pub given : Given
+  pub out : List ℕ
+  pub numbers : List ℕ
+  pub firsts : List ℕ
+  pub counts : List ℕ
+
+abbrev pub flatten : ℕ → List ℕ → List ℕ → List ℕ → List ℕ → List ℕ → Flatten
+flatten n a s ns fs cs = record { given = given n a; out = s; numbers = ns; firsts = fs; counts = cs }
+
+abbrev pub ofFlatten : flattened.Outcome → List ℕ → Flatten
+ofFlatten r a =
+    flatten (flattened.numberOf (r .answer))
+    (told (flattened.numberOf (r .answer) ∷ flattened.placeOf (r .answer) ∷ flattened.bytesOf (r .answer) ∷ flattened.bodiesOf (r .answer) ∷ []) a)
+    (r .out) (r .numbers) (r .firsts) (r .counts)

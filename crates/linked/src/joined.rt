@@ -1,0 +1,34 @@
+// The numbers of what joining answers.
+ghost use mathlib.Core.Path.{_≡_};
+ghost use Rattle.joining.specs.Joined.{numberOf, placeOf, lengthOf};
+use joining::join::Joined;
+
+pub fn number_of(r: Joined) -> usize
+    ensures { λ n. ⌜ n ≡ numberOf r ⌝ }
+{
+    match r {
+        Joined::BadFile(number, _) => number,
+        Joined::NoRoom => 40,
+        Joined::Written(_, _) => 0,
+    }
+}
+
+pub fn place_of(r: Joined) -> usize
+    ensures { λ n. ⌜ n ≡ placeOf r ⌝ }
+{
+    match r {
+        Joined::BadFile(_, place) => place,
+        Joined::NoRoom => 0,
+        Joined::Written(ops, _) => ops,
+    }
+}
+
+pub fn length_of(r: Joined) -> usize
+    ensures { λ n. ⌜ n ≡ lengthOf r ⌝ }
+{
+    match r {
+        Joined::BadFile(_, _) => 0,
+        Joined::NoRoom => 0,
+        Joined::Written(_, length) => length,
+    }
+}
