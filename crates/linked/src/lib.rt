@@ -10,9 +10,7 @@ ghost use Rattle.linked.specs.Linked.{given, ofRead, ofCheck, run, ofRun
 use crate::answer::tell;
 use machine::machine::Machine;
 
-pub mod answer; // what is written to `answer`
-pub mod joined; // the numbers of what joining answers
-pub mod flattened; // the bytes and bodies of what flattening answers
+mod answer; // what is written to `answer`
 
 // Whether a file is good: number, place, and the ops read.
 #[no_mangle]
@@ -75,9 +73,9 @@ pub extern "C" fn feltcairn_join(bytes: &[u8], out: &mut [u8], answer: &mut [u64
     ensures { λ r. ⌜ join r (now (answer .exit)) (now (out .exit)) ≡ ofJoin (joinOf (now (bytes .entry)) (now (out .entry))) (now (answer .entry)) ⌝ }
 {
     let r = joining::join::join(bytes, out);
-    let number = joined::number_of(r);
-    let place = joined::place_of(r);
-    let length = joined::length_of(r);
+    let number = joining::answer::number_of(r);
+    let place = joining::answer::place_of(r);
+    let length = joining::answer::length_of(r);
     let told = [number as u64, place as u64, length as u64];
     tell(answer, &told);
     number
@@ -95,11 +93,11 @@ pub extern "C" fn feltcairn_flatten_numbers(
 ) -> usize
     ensures { λ r. ⌜ flatten r (now (answer .exit)) (now (out .exit)) (now (numbers .exit)) (now (firsts .exit)) (now (counts .exit)) ≡ ofFlatten (flattenOf (now (bytes .entry)) (now (out .entry)) (now (numbers .entry)) (now (firsts .entry)) (now (counts .entry))) (now (answer .entry)) ⌝ }
 {
-    let r = flattening::flatten::flatten(bytes, out, numbers, firsts, counts);
+    let r = flattening::numbers::flatten_numbers(bytes, out, numbers, firsts, counts);
     let number = flattening::answer::number_of(r);
     let place = flattening::answer::place_of(r);
-    let length = flattened::bytes_of(r);
-    let bodies = flattened::bodies_of(r);
+    let length = flattening::answer::bytes_of(r);
+    let bodies = flattening::answer::bodies_of(r);
     let told = [number as u64, place as u64, length as u64, bodies as u64];
     tell(answer, &told);
     number

@@ -20,4 +20,4 @@ feltcairn-flatten-numbers-spec =
     (λ c. search needs)
     (λ c. search needs)
     (λ c. search needs)
-    (λ c. rw (← c .before .before .before .before .before .before .before .before .before .before .before .before .before .before .before .before .before .flatten .ensures, c .before .before .tell .ensures, c .before .before .before .before .before .before .before .before .number-of .ensures, c .before .before .before .before .before .before .before .place-of .ensures, c .before .before .before .before .before .before .bytes-of .ensures, c .before .before .before .before .before .bodies-of .ensures) refl))
+    (λ c. rw (← c .before .before .before .before .before .before .before .before .before .before .before .before .before .before .before .before .before .flatten-numbers .ensures, c .before .before .tell .ensures, c .before .before .before .before .before .before .before .before .number-of .ensures, c .before .before .before .before .before .before .before .place-of .ensures, c .before .before .before .before .before .before .bytes-of .ensures, c .before .before .before .before .before .bodies-of .ensures) refl))

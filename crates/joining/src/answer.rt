@@ -1,8 +1,9 @@
-// The numbers of what joining answers.
+// What joining's answer says.
 ghost use mathlib.Core.Path.{_≡_};
 ghost use Rattle.joining.specs.Joined.{numberOf, placeOf, lengthOf};
-use joining::join::Joined;
+use crate::join::Joined;
 
+// The number that is given back, the place that goes with it, and the bytes written.
 pub fn number_of(r: Joined) -> usize
     ensures { λ n. ⌜ n ≡ numberOf r ⌝ }
 {
