@@ -103,7 +103,7 @@ def lanes(times, n, first, second, ops, kind):
 
 
 INTS = [ADD, SUB, MUL, DIV, BXOR, NEG, REM, BAND, INC, LSH, BOR, DEC, LRSH, NAND, BNOT, ARSH, INDEX, GEZ, AND, NOT, OR]
-FLOATS = [ADDF, MULF, SUBF, DIVF, NEGF, ADDF, REMF, MULF, GEZF]
+FLOATS = [ADDF, MULF, SUBF, DIVF, NEGF, ADDF, REMF, MULF, GEZF, TOINT, TOFLOAT, MULF]
 
 
 def times(n, ops):

@@ -15,7 +15,7 @@ no-digit : (n : ℕ) → suc (suc n) < 2 → ⊥
 no-digit n h = omega arith
 
 -- a fact of two digits, by its four cases
-on-digits : (P : ℕ → ℕ → Type 0) → P 0 0 → P 0 1 → P 1 0 → P 1 1 → (x y : ℕ) → x < 2 → y < 2 → P x y
+pub on-digits : (P : ℕ → ℕ → Type 0) → P 0 0 → P 0 1 → P 1 0 → P 1 1 → (x y : ℕ) → x < 2 → y < 2 → P x y
 on-digits P p q r s zero zero h k = p
 on-digits P p q r s zero (suc zero) h k = q
 on-digits P p q r s (suc zero) zero h k = r

@@ -1,20 +1,32 @@
 // A lane as a float of 64 bits, by its pattern: one function for each arm of the Rust's `step`, in the order of the arms. Every NaN pattern is
-// read as the one NaN, and a NaN that an op gives is stored as one pattern. Each of + - * / % leaves at the first NaN operand, which no sum needs.
+// read as the one NaN, and a NaN that an op gives is stored as one pattern. Each of + - * / % leaves where an operand is a NaN, which no sum needs.
 ghost use mathlib.Core.Path.{_≡_};
+ghost use mathlib.Core.Bool.{_||_};
 ghost use lib.Ieee.{binary64, nanBits};
 ghost use Rattle.lanes.specs.Float.{loadedOf, storedOf, floatAdd, floatSub, floatMul, floatDiv, floatRem, floatNeg, floatGez, toInt, toFloat};
 use crate::int::HALF;
+use crate::int::bit_or;
 use crate::int::integer;
 use crate::int::pattern;
 
 // The pattern that every NaN is stored as.
 pub const NAN: u64 = 0x7FF8_0000_0000_0000;
 
+const LIFT: u64 = 0xF_FFFF_FFFF_FFFF;
+
 // Whether a pattern is a NaN's: below the sign it is above infinity's.
 fn nan_bits(a: u64) -> bool
     ensures { λ r. ⌜ r ≡ nanBits binary64 a ⌝ }
 {
     a % HALF > 0x7FF0_0000_0000_0000
+}
+
+// Whether one of two patterns is a NaN's: added to what is below the sign, LIFT takes a NaN's pattern to the sign's bit, and no other. It is one
+// test for both, without a branch between them.
+fn either_nan(a: u64, b: u64) -> bool
+    ensures { λ r. ⌜ r ≡ (nanBits binary64 a || nanBits binary64 b) ⌝ }
+{
+    bit_or(a % HALF + LIFT, b % HALF + LIFT) >= HALF
 }
 
 // The float of a pattern.
@@ -61,10 +73,7 @@ pub fn to_float(a: u64) -> u64
 pub fn float_add(a: u64, b: u64) -> u64
     ensures { λ r. ⌜ r ≡ floatAdd a b ⌝ }
 {
-    if nan_bits(a) {
-        return NAN;
-    }
-    if nan_bits(b) {
+    if either_nan(a, b) {
         return NAN;
     }
     as_int(f64::from_bits(a) + f64::from_bits(b))
@@ -73,10 +82,7 @@ pub fn float_add(a: u64, b: u64) -> u64
 pub fn float_sub(a: u64, b: u64) -> u64
     ensures { λ r. ⌜ r ≡ floatSub a b ⌝ }
 {
-    if nan_bits(a) {
-        return NAN;
-    }
-    if nan_bits(b) {
+    if either_nan(a, b) {
         return NAN;
     }
     as_int(f64::from_bits(a) - f64::from_bits(b))
@@ -85,10 +91,7 @@ pub fn float_sub(a: u64, b: u64) -> u64
 pub fn float_mul(a: u64, b: u64) -> u64
     ensures { λ r. ⌜ r ≡ floatMul a b ⌝ }
 {
-    if nan_bits(a) {
-        return NAN;
-    }
-    if nan_bits(b) {
+    if either_nan(a, b) {
         return NAN;
     }
     as_int(f64::from_bits(a) * f64::from_bits(b))
@@ -97,10 +100,7 @@ pub fn float_mul(a: u64, b: u64) -> u64
 pub fn float_div(a: u64, b: u64) -> u64
     ensures { λ r. ⌜ r ≡ floatDiv a b ⌝ }
 {
-    if nan_bits(a) {
-        return NAN;
-    }
-    if nan_bits(b) {
+    if either_nan(a, b) {
         return NAN;
     }
     as_int(f64::from_bits(a) / f64::from_bits(b))
@@ -109,10 +109,7 @@ pub fn float_div(a: u64, b: u64) -> u64
 pub fn float_rem(a: u64, b: u64) -> u64
     ensures { λ r. ⌜ r ≡ floatRem a b ⌝ }
 {
-    if nan_bits(a) {
-        return NAN;
-    }
-    if nan_bits(b) {
+    if either_nan(a, b) {
         return NAN;
     }
     as_int(f64::from_bits(a) % f64::from_bits(b))
