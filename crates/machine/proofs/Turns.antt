@@ -17,7 +17,7 @@ use Rattle.machine_model.specs.Step.{Outcome, step}
 use Rattle.machine_model.specs.Step.Outcome.{next}
 use Rattle.machine_model.specs.Formed.{Rising}
 use Rattle.machine_model.proofs.Outcomes.{or-right}
-use Rattle.machine_ops.specs.Found.{partnerOf}
+use Rattle.searches.specs.Found.{partnerOf}
 use Rattle.machine_ops.specs.Place.{pick}
 use Rattle.machine_ops.specs.declared.place.Place.{Place}
 use Rattle.machine_step.specs.Held.{Held, After, Code}

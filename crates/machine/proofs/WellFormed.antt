@@ -17,7 +17,7 @@ use Rattle.machine_model.specs.State.{Given}
 use Rattle.machine_model.specs.Scan.{opAt, functions}
 use Rattle.machine_model.specs.Formed.{Each, Rising, Marked}
 use Rattle.machine_model.proofs.Each.{each-to}
-use Rattle.machine_ops.specs.Found.{rowFunction}
+use Rattle.searches.specs.Found.{rowFunction}
 use Rattle.machine_ops.specs.declared.place.Place.{Place}
 use Rattle.machine_step.specs.Held.{Held}
 use Rattle.machine_step.specs.Decoded.{codeOf, givenOf}

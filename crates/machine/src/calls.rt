@@ -71,7 +71,7 @@ impl Machine {
                     machine: self,
                 };
             }
-            let with = machine_ops::scan::look_up(kinds, &mut partners, h.position);
+            let with = searches::scan::look_up(kinds, &mut partners, h.position);
             let out = machine_step::step::step(
                 h,
                 kinds,
@@ -132,7 +132,7 @@ impl Machine {
                 machine: self,
             };
         }
-        let with = machine_ops::scan::partner(kinds, h.position);
+        let with = searches::scan::partner(kinds, h.position);
         let out = machine_step::step::step(
             h,
             kinds,

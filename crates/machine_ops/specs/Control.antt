@@ -4,7 +4,7 @@ use Prim.Native.Nat.{ℕ, _+_, _-_, _^_}
 use lib.ListN.{length, getD, set}
 use lib.Dec.{leb, ltb, eqb}
 use Rattle.machine_ops.specs.Place.{pick, atPosition, ofDepth, ofFunctions, halt, next, hop, Laned, laned, Steered, steered}
-use Rattle.machine_ops.specs.Found.{endOf, elseOf, openOf, markOf, enteredIn, countedIn}
+use Rattle.searches.specs.Found.{endOf, elseOf, openOf, markOf, enteredIn, countedIn}
 use Rattle.machine_ops.specs.declared.place.Place.{Place}
 use Rattle.machine_ops.specs.declared.place.Hop.{Hop}
 

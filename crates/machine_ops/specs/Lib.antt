@@ -1,5 +1,4 @@
 pub mod Place
-pub mod Found
 pub mod Control
 pub mod Tape
 pub mod Lane

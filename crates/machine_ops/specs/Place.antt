@@ -4,11 +4,7 @@ use mathlib.Core.List.{List}
 use Prim.Native.Nat.{ℕ, _+_}
 use Rattle.machine_ops.specs.declared.place.Place.{Place}
 use Rattle.machine_ops.specs.declared.place.Hop.{Hop}
-
--- the first where the test holds, else the second
-unfoldable pub pick : {A : Type 0} → Bool → A → A → A
-pick true a b = a
-pick false a b = b
+unfoldable pub use Rattle.searches.specs.Found.{pick}
 
 abbrev pub atPosition : Place → ℕ → Place
 atPosition p v = record { depth = p .depth; saved = p .saved; pointer = p .pointer; position = v; length = p .length; lanes = p .lanes; functions = p .functions; first = p .first; waiting = p .waiting; taken = p .taken; written = p .written; halted = p .halted }

@@ -3,13 +3,13 @@ ghost use mathlib.Core.Path.{_≡_};
 ghost use Prim.Native.Nat.{ℕ, _+_, _≤_, _<_};
 ghost use lib.ListN.{length, take};
 ghost use Rattle.machine_ops.specs.Place.{laned, steered};
-ghost use Rattle.machine_ops.specs.Found.{endOf, elseOf, openOf};
+ghost use Rattle.searches.specs.Found.{endOf, elseOf, openOf};
 ghost use Rattle.machine_ops.specs.Control.{jumpOf, functionOf, callOf, retOf, whileOf, ifOf, elsesOf, endsOf, controlOf};
 ghost use Rattle.machine_model.specs.Formed.{Rising};
 use crate::place::Hop;
 use crate::place::Place;
-use crate::scan;
-use crate::table;
+use searches::scan;
+use searches::table;
 
 fn wide(x: u16) -> usize
     ensures { λ r. ⌜ (r ≡ x) × (r < 65536) ⌝ }

@@ -25,7 +25,7 @@ use Rattle.machine_model.proofs.Scans.{end-below, else-below, function-below, k
 use Rattle.machine_model.proofs.Table.{each-enter, rising-enter, marks-few}
 use Rattle.machine_model.proofs.Stacks.{pushed, back-popped}
 use Rattle.machine_ops.specs.Place as m
-use Rattle.machine_ops.specs.Found.{rowMark, rowFunction, placeOr, endOf, elseOf, openOf, markOf, entry, enteredIn, countedIn}
+use Rattle.searches.specs.Found.{rowMark, rowFunction, placeOr, endOf, elseOf, openOf, markOf, entry, enteredIn, countedIn}
 use Rattle.machine_ops.specs.Control.{jumpOf, functionOf, callOf, retOf, whileOf, ifOf, elsesOf, endsOf, inTable}
 use Rattle.machine_step.specs.Held.{Held, held, steering}
 use Rattle.machine_step.specs.View.{view, laid}

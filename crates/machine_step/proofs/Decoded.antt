@@ -24,7 +24,7 @@ use Rattle.ops.proofs.Meaning.{means}
 use Rattle.testing_device.proofs.Words.{byCase}
 use Rattle.machine_model.specs.Scan.{opAt, marks, functions}
 use Rattle.machine_model.specs.Limited.{count, Limited}
-use Rattle.machine_ops.specs.Found.{rowMark, rowFunction}
+use Rattle.searches.specs.Found.{rowMark, rowFunction}
 use Rattle.machine_step.specs.Fine.{Fine}
 use Rattle.machine_step.specs.Decoded.{codeOf, givenOf}
 use Rattle.machine_step.proofs.Families.{Told, op-row}

@@ -14,7 +14,7 @@ use Rattle.ops.specs.Op.Plain.{comment, store, move, swap, locate, offset, dere
 use Rattle.ops.specs.Op.Sort.{ints, floats}
 use Rattle.ops.specs.Op.Op.{control, set, load, plain}
 use Rattle.machine_ops.specs.Place.{pick}
-use Rattle.machine_ops.specs.Found.{rowMark, rowFunction}
+use Rattle.searches.specs.Found.{rowMark, rowFunction}
 use Rattle.machine_step.specs.Family.{familyOf, cellRow, laneRow}
 
 -- the row k is to the searches what the op o is

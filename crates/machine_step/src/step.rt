@@ -3,7 +3,7 @@ ghost use mathlib.Core.Path.{_≡_};
 ghost use Prim.Native.Nat.{ℕ, _+_, _*_, _≤_, _<_};
 ghost use lib.ListN.{length, getD, take};
 ghost use Rattle.machine_model.specs.Formed.{Rising};
-ghost use Rattle.machine_ops.specs.Found.{partnerOf};
+ghost use Rattle.searches.specs.Found.{partnerOf};
 ghost use Rattle.machine_step.specs.Held.{held, after, code};
 ghost use Rattle.machine_step.specs.Step.{opOf, stepOf};
 ghost use Rattle.machine_step.specs.Fine.{Fine};

@@ -5,7 +5,7 @@ use Rattle.machine_ops.specs.Place.{pick}
 use borrow.Author.Tests.{ne-eqb}
 use mathlib.Core.Path.{_∙_, refl, sym}
 use borrow.Author.Needs.{needs}
-use Rattle.machine_ops.proofs.Partners.{of-function, of-while, of-if, of-else, of-end}
+use Rattle.searches.proofs.Partners.{of-function, of-while, of-if, of-else, of-end}
 use Rattle.machine_step.proofs.step.op.Statement.{statement}
 use Rattle.machine_step.proofs.step.op.Tie as tie
 

@@ -5,8 +5,8 @@ use native.Mathlib.Omega.{arith}
 use native.Mathlib.Nat.{sub-zero}
 use lib.ListN.{length}
 use borrow.Author.Needs.{needs}
-use Rattle.machine_ops.specs.Found.{Noted}
-use Rattle.machine_ops.proofs.Partners.{noted-none}
+use Rattle.searches.specs.Found.{Noted}
+use Rattle.searches.proofs.Partners.{noted-none}
 use Rattle.machine_step.specs.Held.{held, code}
 use Rattle.machine_step.specs.Run.{runOf}
 use Rattle.machine.specs.Answer.{numberOf, placeOf}

@@ -1,0 +1,216 @@
+-- A turn of each search: it stops at this op, or goes on at the next one with the depth that the op leaves. One set of laws serves the
+-- searches that go forward, to an End, to an Else and to the k-th mark; another the search that goes back. Assumes nothing.
+use mathlib.Core.Path.{_≡_, _∙_, refl, ap, sym}
+use mathlib.Core.Bool.{Bool, true, false}
+use mathlib.Core.List.{List, [], _∷_, _++_, map, reverse, reverseAux}
+use mathlib.Core.Option.{Option, none, some}
+use Prim.Native.Nat.{ℕ, zero, suc, _+_, _-_, _≤_, _<_}
+use native.Mathlib.Omega.{arith}
+use native.Mathlib.Numerals.{add-one}
+use lib.Dec.{eqb, eqb·suc-zero}
+use lib.ListN.{length, getD, take, drop, length-map, length-reverse, List·getD-map, drop-of-length-le}
+use lib.Seq.{take-suc, drop-cons, length-take-le}
+use Rattle.ops.specs.Op.{Mark}
+use Rattle.ops.specs.Op.Mark.{up, down, mid, flat}
+use Rattle.machine_model.specs.Scan.{toEnd, toElse, toOpen, kth}
+use Rattle.searches.specs.Found.{pick, rowMark, placeOr, depthAfter, closesAt, turnsAt, depthBefore, opensAt, hitsAt, lessAfter}
+
+-- ---- what an op does at a depth, as the code tests it
+
+pub closes-down : (d : ℕ) → eqb d 0 ≡ closesAt down d
+unfolding closesAt
+closes-down zero = refl
+closes-down (suc d) = eqb·suc-zero d
+
+pub turns-down : (d : ℕ) → eqb d 0 ≡ turnsAt down d
+unfolding turnsAt
+turns-down zero = refl
+turns-down (suc d) = eqb·suc-zero d
+
+pub turns-mid : (d : ℕ) → eqb d 0 ≡ turnsAt mid d
+unfolding turnsAt
+turns-mid zero = refl
+turns-mid (suc d) = eqb·suc-zero d
+
+pub opens-up : (d : ℕ) → eqb d 0 ≡ opensAt up d
+unfolding opensAt
+opens-up zero = refl
+opens-up (suc d) = eqb·suc-zero d
+
+pub hits-mark : (n : ℕ) → eqb n 0 ≡ hitsAt true n
+unfolding hitsAt
+hits-mark zero = refl
+hits-mark (suc n) = eqb·suc-zero n
+
+pub after-down : (d : ℕ) → depthAfter down d ≡ d - 1
+unfolding depthAfter
+after-down zero = refl
+after-down (suc d) = omega arith
+
+pub before-up : (d : ℕ) → depthBefore up d ≡ d - 1
+unfolding depthBefore
+before-up zero = refl
+before-up (suc d) = omega arith
+
+pub less-mark : (n : ℕ) → lessAfter true n ≡ n - 1
+unfolding lessAfter
+less-mark zero = refl
+less-mark (suc n) = omega arith
+
+-- an op that is neither End nor Else opens or does nothing to a search
+opening : (P : Mark → Type 0) → P up → P flat → (a b c : Bool) → P (pick a up (pick b up (pick c up flat)))
+unfolding pick
+opening P u f true b c = u
+opening P u f false true c = u
+opening P u f false false true = u
+opening P u f false false false = f
+
+pub closes-other : (k d : ℕ) → eqb k 8 ≡ false → false ≡ closesAt (rowMark k) d
+unfolding closesAt rowMark pick
+closes-other k d e = rw e (by (eqb k 7))
+  where
+    by : (b : Bool) → false ≡ closesAt (pick b mid (pick (eqb k 2) up (pick (eqb k 5) up (pick (eqb k 6) up flat)))) d
+    by true = refl
+    by false = opening (λ m. false ≡ closesAt m d) refl refl (eqb k 2) (eqb k 5) (eqb k 6)
+
+pub turns-other : (k d : ℕ) → eqb k 8 ≡ false → eqb k 7 ≡ false → false ≡ turnsAt (rowMark k) d
+unfolding turnsAt rowMark pick
+turns-other k d e f = rw (e, f) (opening (λ m. false ≡ turnsAt m d) refl refl (eqb k 2) (eqb k 5) (eqb k 6))
+
+pub before-other : (k : ℕ) → eqb k 8 ≡ false → eqb k 7 ≡ false → 0 ≡ depthBefore (rowMark k) 0
+unfolding depthBefore rowMark pick
+before-other k e f = rw (e, f) (opening (λ m. 0 ≡ depthBefore m 0) refl refl (eqb k 2) (eqb k 5) (eqb k 6))
+
+pub opens-other : (k d : ℕ) → eqb k 2 ≡ false → eqb k 5 ≡ false → eqb k 6 ≡ false → false ≡ opensAt (rowMark k) d
+unfolding opensAt rowMark pick
+opens-other k d e f g = rw (e, f, g) (by (eqb k 8) (eqb k 7))
+  where
+    by : (a b : Bool) → false ≡ opensAt (pick a down (pick b mid flat)) d
+    by true b = refl
+    by false true = refl
+    by false false = refl
+
+-- ---- forwards
+
+-- a search that stops at an element where `stop` says so, and else goes on with the depth that `go` gives
+pub record Turning {A : Type 0} (to : ℕ → ℕ → List A → Option ℕ) (stop : A → ℕ → Bool) (go : A → ℕ → ℕ) : Type 0 where
+  pub over : (p d : ℕ) → to p d [] ≡ none
+  pub turn : (p d : ℕ) (m : A) (ms : List A) → to p d (m ∷ ms) ≡ pick (stop m d) (some p) (to (suc p) (go m d) ms)
+
+pub end-turning : Turning toEnd closesAt depthAfter
+unfolding toEnd pick closesAt depthAfter
+end-turning = record { over = over; turn = turn }
+  where
+    over : (p d : ℕ) → toEnd p d [] ≡ none
+    over p d = refl
+
+    turn : (p d : ℕ) (m : Mark) (ms : List Mark) → toEnd p d (m ∷ ms) ≡ pick (closesAt m d) (some p) (toEnd (suc p) (depthAfter m d) ms)
+    turn p d up ms = refl
+    turn p zero down ms = refl
+    turn p (suc d) down ms = refl
+    turn p d mid ms = refl
+    turn p d flat ms = refl
+
+pub else-turning : Turning toElse turnsAt depthAfter
+unfolding toElse pick turnsAt depthAfter
+else-turning = record { over = over; turn = turn }
+  where
+    over : (p d : ℕ) → toElse p d [] ≡ none
+    over p d = refl
+
+    turn : (p d : ℕ) (m : Mark) (ms : List Mark) → toElse p d (m ∷ ms) ≡ pick (turnsAt m d) (some p) (toElse (suc p) (depthAfter m d) ms)
+    turn p d up ms = refl
+    turn p zero down ms = refl
+    turn p (suc d) down ms = refl
+    turn p zero mid ms = refl
+    turn p (suc d) mid ms = refl
+    turn p d flat ms = refl
+
+pub mark-turning : Turning kth hitsAt lessAfter
+unfolding kth pick hitsAt lessAfter
+mark-turning = record { over = over; turn = turn }
+  where
+    over : (p d : ℕ) → kth p d [] ≡ none
+    over p d = refl
+
+    turn : (p d : ℕ) (m : Bool) (ms : List Bool) → kth p d (m ∷ ms) ≡ pick (hitsAt m d) (some p) (kth (suc p) (lessAfter m d) ms)
+    turn p zero true ms = refl
+    turn p (suc d) true ms = refl
+    turn p d false ms = refl
+
+-- the search from place i at depth d over the rows of the kinds; the op count where it finds nothing
+unfoldable pub searched : {A : Type 0} → (ℕ → ℕ → List A → Option ℕ) → (ℕ → A) → List ℕ → ℕ → ℕ → ℕ
+searched to row ks i d = placeOr (length ks) (to i d (drop i (map row ks)))
+
+module _ {A : Type 0} {to : ℕ → ℕ → List A → Option ℕ} {stop : A → ℕ → Bool} {go : A → ℕ → ℕ} (t : Turning to stop go) (row : ℕ → A) (ks : List ℕ) (i d : ℕ) where
+  here : i < length ks → drop i (map row ks) ≡ row (getD ks i 0) ∷ drop (i + 1) (map row ks)
+  here h =
+      let l : length (map row ks) ≡ length ks = length-map ks row in
+      drop-cons (map row ks) i (row 0) (omega arith)
+      ∙ rw (List·getD-map row ks i 0, add-one i) refl
+
+  turned : i < length ks → searched to row ks i d ≡ placeOr (length ks) (pick (stop (row (getD ks i 0)) d) (some i) (to (i + 1) (go (row (getD ks i 0)) d) (drop (i + 1) (map row ks))))
+  unfolding searched
+  turned h =
+      ap (λ (z : List A). placeOr (length ks) (to i d z)) (here h)
+      ∙ ap (placeOr (length ks)) (t .turn i d (row (getD ks i 0)) (drop (i + 1) (map row ks)))
+      ∙ rw (add-one i) refl
+
+  pub from-here : i < length ks → stop (row (getD ks i 0)) d ≡ true → i ≡ searched to row ks i d
+  unfolding pick
+  from-here h e = sym (turned h ∙ rw e refl)
+
+  pub from-on : i < length ks → stop (row (getD ks i 0)) d ≡ false → searched to row ks (i + 1) (go (row (getD ks i 0)) d) ≡ searched to row ks i d
+  unfolding pick searched
+  from-on h e = sym (turned h ∙ rw e refl)
+
+  pub from-none : length ks ≤ i → length ks ≡ searched to row ks i d
+  unfolding searched
+  from-none h =
+      let l : length (map row ks) ≡ length ks = length-map ks row in
+      rw (drop-of-length-le (map row ks) {i = i} (omega arith), t .over i d) refl
+
+-- ---- backwards
+
+-- the search back from place i at depth d
+unfoldable pub back : List ℕ → ℕ → ℕ → ℕ
+back ks i d = placeOr (length ks) (toOpen d (reverse (take i (map rowMark ks))))
+
+reverse-snoc : (xs : List Mark) (y : Mark) (r : List Mark) → reverseAux (xs ++ (y ∷ [])) r ≡ y ∷ reverseAux xs r
+reverse-snoc [] y r = refl
+reverse-snoc (x ∷ xs) y r = reverse-snoc xs y (x ∷ r)
+
+open-turn : (d : ℕ) (m : Mark) (ms : List Mark) → toOpen d (m ∷ ms) ≡ pick (opensAt m d) (some (length ms)) (toOpen (depthBefore m d) ms)
+unfolding toOpen pick opensAt depthBefore
+open-turn zero up ms = refl
+open-turn (suc d) up ms = refl
+open-turn d down ms = refl
+open-turn d mid ms = refl
+open-turn d flat ms = refl
+
+pub back-none : (ks : List ℕ) (i d : ℕ) → i ≡ 0 → length ks ≡ back ks i d
+unfolding back toOpen
+back-none ks i d e = rw e refl
+
+module _ (ks : List ℕ) (i j d : ℕ) (s : i ≡ j + 1) (h : j < length ks) where
+  turned-back : back ks i d ≡ placeOr (length ks) (pick (opensAt (rowMark (getD ks j 0)) d) (some j) (toOpen (depthBefore (rowMark (getD ks j 0)) d) (reverse (take j (map rowMark ks)))))
+  unfolding back
+  turned-back =
+      let ms = map rowMark ks in
+      let l : length ms ≡ length ks = length-map ks rowMark in
+      let k = getD ks j 0 in
+      let cut : take (suc j) ms ≡ take j ms ++ (rowMark k ∷ []) = take-suc ms j (rowMark 0) (omega arith) ∙ ap (λ (z : Mark). take j ms ++ (z ∷ [])) (List·getD-map rowMark ks j 0) in
+      let n : length (reverse (take j ms)) ≡ j = length-reverse (take j ms) ∙ length-take-le j ms (omega arith) in
+      ap (λ (z : ℕ). placeOr (length ks) (toOpen d (reverse (take z ms)))) (s ∙ add-one j)
+      ∙ ap (λ (z : List Mark). placeOr (length ks) (toOpen d (reverse z))) cut
+      ∙ ap (λ (z : List Mark). placeOr (length ks) (toOpen d z)) (reverse-snoc (take j ms) (rowMark k) [])
+      ∙ ap (placeOr (length ks)) (open-turn d (rowMark k) (reverse (take j ms)))
+      ∙ rw n refl
+
+  pub back-here : opensAt (rowMark (getD ks j 0)) d ≡ true → j ≡ back ks i d
+  unfolding pick
+  back-here e = sym (turned-back ∙ rw e refl)
+
+  pub back-on : opensAt (rowMark (getD ks j 0)) d ≡ false → back ks j (depthBefore (rowMark (getD ks j 0)) d) ≡ back ks i d
+  unfolding pick back
+  back-on e = sym (turned-back ∙ rw e refl)

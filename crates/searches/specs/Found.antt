@@ -1,0 +1,137 @@
+-- The searches over the rows of a patch's kinds, by the model's own searches, with the op count where there is no partner; and the
+-- function table with a place entered. Assumes nothing.
+use mathlib.Core.Bool.{Bool, true, false, cond}
+use mathlib.Core.List.{List, map, reverse}
+use mathlib.Core.Option.{Option, none, some}
+use mathlib.Core.Path.{_≡_}
+use Prim.Native.Nat.{ℕ, zero, suc, _+_, _≤_, _<_}
+use lib.ListN.{length, getD, set, take, drop}
+use lib.Dec.{ltb, eqb}
+use Rattle.ops.specs.Op.{Mark}
+use Rattle.ops.specs.Op.Mark.{up, down, mid, flat}
+use Rattle.ops.specs.Storage.{fill}
+use Rattle.machine_model.specs.Scan.{toEnd, toElse, toOpen, kth}
+use Rattle.machine_model.specs.Step.{enter}
+
+-- the first where the test holds, else the second
+unfoldable pub pick : {A : Type 0} → Bool → A → A → A
+pick true a b = a
+pick false a b = b
+
+-- what a row of the table of kinds is to a search: Function, While and If open, End closes, Else stands between
+unfoldable pub rowMark : ℕ → Mark
+unfolding pick
+rowMark k =
+    pick (eqb k 8) down (pick (eqb k 7) mid (pick (eqb k 2) up (pick (eqb k 5) up (pick (eqb k 6) up flat))))
+
+unfoldable pub rowFunction : ℕ → Bool
+rowFunction k = eqb k 2
+
+abbrev pub placeOr : ℕ → Option ℕ → ℕ
+placeOr n none = n
+placeOr n (some p) = p
+
+-- the depth after an op, and whether the op is an End, or an Else, at depth 0
+unfoldable pub depthAfter : Mark → ℕ → ℕ
+depthAfter up d = suc d
+depthAfter down zero = zero
+depthAfter down (suc d) = d
+depthAfter mid d = d
+depthAfter flat d = d
+
+unfoldable pub closesAt : Mark → ℕ → Bool
+closesAt up d = false
+closesAt down zero = true
+closesAt down (suc d) = false
+closesAt mid d = false
+closesAt flat d = false
+
+unfoldable pub turnsAt : Mark → ℕ → Bool
+turnsAt up d = false
+turnsAt down zero = true
+turnsAt down (suc d) = false
+turnsAt mid zero = true
+turnsAt mid (suc d) = false
+turnsAt flat d = false
+
+-- the same going back
+unfoldable pub depthBefore : Mark → ℕ → ℕ
+depthBefore up zero = zero
+depthBefore up (suc d) = d
+depthBefore down d = suc d
+depthBefore mid d = d
+depthBefore flat d = d
+
+unfoldable pub opensAt : Mark → ℕ → Bool
+opensAt up zero = true
+opensAt up (suc d) = false
+opensAt down d = false
+opensAt mid d = false
+opensAt flat d = false
+
+-- whether an op is the mark that n marks are passed before, and how many are left after it
+unfoldable pub hitsAt : Bool → ℕ → Bool
+hitsAt true zero = true
+hitsAt true (suc n) = false
+hitsAt false n = false
+
+unfoldable pub lessAfter : Bool → ℕ → ℕ
+lessAfter true zero = zero
+lessAfter true (suc n) = n
+lessAfter false n = n
+
+-- the End that closes the bracket open before the place; the Else or End of an If; the op that the End at the place closes; the k-th mark
+unfoldable pub endOf : List ℕ → ℕ → ℕ
+endOf ks from = placeOr (length ks) (toEnd from 0 (drop from (map rowMark ks)))
+
+unfoldable pub elseOf : List ℕ → ℕ → ℕ
+elseOf ks from = placeOr (length ks) (toElse from 0 (drop from (map rowMark ks)))
+
+unfoldable pub openOf : List ℕ → ℕ → ℕ
+openOf ks at = placeOr (length ks) (toOpen 0 (reverse (take at (map rowMark ks))))
+
+unfoldable pub markOf : List ℕ → ℕ → ℕ
+markOf ks k = placeOr (length ks) (kth 0 k (map rowFunction ks))
+
+-- the partner of the op at i: the End of a Function, a While and an Else, the Else or End of an If, the op that an End closes; 0 for any other
+unfoldable pub partnerOf : List ℕ → ℕ → ℕ
+unfolding pick
+partnerOf ks i =
+    pick (eqb (getD ks i 0) 2) (endOf ks (i + 1))
+    (pick (eqb (getD ks i 0) 5) (endOf ks (i + 1))
+    (pick (eqb (getD ks i 0) 6) (elseOf ks (i + 1))
+    (pick (eqb (getD ks i 0) 7) (endOf ks (i + 1))
+    (pick (eqb (getD ks i 0) 8) (openOf ks i) 0))))
+
+-- ps has 0 for an op whose partner was not looked for, and else one more than its partner's place
+pub record Noted (ks ps : List ℕ) : Type 0 where
+  pub many : length ps ≡ 4096
+  pub each : (i : ℕ) → i < length ks → 0 < getD ps i 0 → getD ps i 0 ≡ partnerOf ks i + 1
+
+-- ---- the table: n places are counted in ts
+
+-- whether v is among the first n
+unfoldable pub hasIn : ℕ → ℕ → List ℕ → Bool
+unfolding pick
+hasIn v zero ts = false
+hasIn v (suc i) ts = let rest = hasIn v i ts in pick (eqb (getD ts i 0) v) true rest
+
+-- the place at n, moved down past those before it that are not smaller
+unfoldable pub siftOf : ℕ → List ℕ → List ℕ
+unfolding pick
+siftOf zero ts = ts
+siftOf (suc i) ts =
+    let rest = siftOf i (set (set ts (suc i) (getD ts i 0)) i (getD ts (suc i) 0)) in
+    pick (ltb (getD ts i 0) (getD ts (suc i) 0)) ts rest
+
+abbrev pub entry : ℕ → ℕ → List ℕ → List ℕ
+entry v n ts = enter v (take n ts)
+
+-- a place entered where it belongs, once; a table with no room for it stays
+unfoldable pub enteredIn : ℕ → ℕ → List ℕ → List ℕ
+unfolding pick
+enteredIn v n ts = pick (ltb (length ts) (length (entry v n ts))) ts (fill (entry v n ts) ts)
+
+unfoldable pub countedIn : ℕ → ℕ → List ℕ → ℕ
+unfolding pick
+countedIn v n ts = pick (ltb (length ts) (length (entry v n ts))) n (length (entry v n ts))
