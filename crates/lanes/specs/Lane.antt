@@ -11,19 +11,18 @@ use lib.Ieee as ieee
 use Rattle.lanes.specs.Int.{bitwise, intAdd, intSub, intMul, intNeg, intInc, intDec, intDiv, intRem, intShl, intShr, intSar, bitAnd, bitNand, bitOr, bitXor, bitNot, boolAnd, boolOr, boolNot, intGez}
 use Rattle.lanes.specs.Float.{floatAdd, floatSub, floatMul, floatDiv, floatRem, floatNeg, floatGez, toInt, toFloat}
 
--- the op with a number, counted from 0; the last from there on
-unfoldable pub cellNumbered : ℕ → CellOp
-cellNumbered k =
-    cond (eqb k 0) Index (cond (eqb k 1) BitwiseNand (cond (eqb k 2) BitwiseAnd (cond (eqb k 3) BitwiseOr (cond (eqb k 4) BitwiseXor
-    (cond (eqb k 5) LeftShift (cond (eqb k 6) LogicalRightShift (cond (eqb k 7) ArithmeticRightShift (cond (eqb k 8) And
-    (cond (eqb k 9) Or (cond (eqb k 10) Add (cond (eqb k 11) Sub (cond (eqb k 12) Mul (cond (eqb k 13) Div (cond (eqb k 14) Rem
-    (cond (eqb k 15) FloatAdd (cond (eqb k 16) FloatSub (cond (eqb k 17) FloatMul
-    (cond (eqb k 18) FloatDiv (FloatRem)))))))))))))))))))
+-- the op of a row of the table of kinds; the last for every other row
+unfoldable pub cellRow : ℕ → CellOp
+cellRow k =
+    cond (eqb k 15) Index (cond (eqb k 17) BitwiseNand (cond (eqb k 18) BitwiseAnd (cond (eqb k 19) BitwiseOr (cond (eqb k 20) BitwiseXor
+    (cond (eqb k 22) LeftShift (cond (eqb k 23) LogicalRightShift (cond (eqb k 24) ArithmeticRightShift (cond (eqb k 25) And
+    (cond (eqb k 26) Or (cond (eqb k 28) Add (cond (eqb k 29) Sub (cond (eqb k 30) Mul (cond (eqb k 31) Div (cond (eqb k 32) Rem
+    (cond (eqb k 45) FloatAdd (cond (eqb k 46) FloatSub (cond (eqb k 47) FloatMul (cond (eqb k 48) FloatDiv FloatRem))))))))))))))))))
 
-unfoldable pub laneNumbered : ℕ → LaneOp
-laneNumbered k =
-    cond (eqb k 0) BitwiseNot (cond (eqb k 1) Not (cond (eqb k 2) Neg (cond (eqb k 3) Inc (cond (eqb k 4) Dec
-    (cond (eqb k 5) IsNonNegative (cond (eqb k 6) ToInt (cond (eqb k 7) ToFloat (cond (eqb k 8) FloatNeg (FloatIsNonNegative)))))))))
+unfoldable pub laneRow : ℕ → LaneOp
+laneRow k =
+    cond (eqb k 21) BitwiseNot (cond (eqb k 27) Not (cond (eqb k 33) Neg (cond (eqb k 34) Inc (cond (eqb k 35) Dec
+    (cond (eqb k 37) IsNonNegative (cond (eqb k 43) ToInt (cond (eqb k 44) ToFloat (cond (eqb k 50) FloatNeg FloatIsNonNegative))))))))
 
 -- the lane a with the cell b beside it
 unfoldable pub cellRule : CellOp → ℕ → ℕ → ℕ

@@ -6,7 +6,7 @@ ghost use lib.Ieee.{binary64, nanBits};
 ghost use Rattle.lanes.specs.Float.{loadedOf, storedOf, floatAdd, floatSub, floatMul, floatDiv, floatRem, floatNeg, floatGez, toInt, toFloat};
 use crate::int::HALF;
 use crate::int::bit_or;
-use crate::int::integer;
+use crate::int::magnitude;
 use crate::int::pattern;
 
 // The pattern that every NaN is stored as.
@@ -63,11 +63,13 @@ pub fn to_int(a: u64) -> u64
     }
 }
 
-// To the nearest float.
+// To the nearest float: that of the magnitude, and the sign is chosen after it, which takes no branch.
 pub fn to_float(a: u64) -> u64
     ensures { λ r. ⌜ r ≡ toFloat a ⌝ }
 {
-    as_int(std::num::nearest_i64_to_f64(integer(a)))
+    let x = std::num::nearest_u64_to_f64(magnitude(a));
+    let y = if a < HALF { x } else { -x };
+    as_int(y)
 }
 
 pub fn float_add(a: u64, b: u64) -> u64

@@ -7,17 +7,6 @@ ghost use Rattle.lanes.specs.Int.{signed, wrap, signedBy, intAdd, intSub
 // The pattern of the least integer, and how many patterns stand for no negative one.
 pub const HALF: u64 = 0x8000_0000_0000_0000;
 
-// The integer of a pattern.
-pub fn integer(a: u64) -> i64
-    ensures { λ r. ⌜ r ≡ signed a ⌝ }
-{
-    if a < HALF {
-        a as i64
-    } else {
-        -1 - ((0xFFFF_FFFF_FFFF_FFFF - a) as i64)
-    }
-}
-
 // The pattern of an integer.
 pub fn pattern(n: i64) -> u64
     ensures { λ r. ⌜ r ≡ wrap n ⌝ }
@@ -30,7 +19,7 @@ pub fn pattern(n: i64) -> u64
 }
 
 // How far from 0 the integer of a pattern is.
-fn magnitude(a: u64) -> u64
+pub fn magnitude(a: u64) -> u64
     ensures { λ r. ⌜ r ≡ natAbs (signed a) ⌝ }
 {
     if a < HALF {

@@ -1,6 +1,6 @@
 // The lane ops, by what they look at, in the order of the kinds, and the rule of each on one lane.
 ghost use mathlib.Core.Path.{_≡_};
-ghost use Rattle.lanes.specs.Lane.{cellNumbered, laneNumbered, cellRule, laneRule};
+ghost use Rattle.lanes.specs.Lane.{cellRow, laneRow, cellRule, laneRule};
 use crate::float::float_add;
 use crate::float::float_div;
 use crate::float::float_gez;
@@ -70,47 +70,47 @@ pub enum LaneOp {
     FloatIsNonNegative,
 }
 
-// The op with a number, counted from 0 in the order above: the loops take it as a number, which a caller that names it hands over in place.
-pub fn cell_numbered(number: u8) -> CellOp
-    ensures { λ r. ⌜ r ≡ cellNumbered number ⌝ }
+// The op of a row of the table of kinds.
+pub fn cell_row(k: u8) -> CellOp
+    ensures { λ r. ⌜ r ≡ cellRow k ⌝ }
 {
-    match number {
-        0 => CellOp::Index,
-        1 => CellOp::BitwiseNand,
-        2 => CellOp::BitwiseAnd,
-        3 => CellOp::BitwiseOr,
-        4 => CellOp::BitwiseXor,
-        5 => CellOp::LeftShift,
-        6 => CellOp::LogicalRightShift,
-        7 => CellOp::ArithmeticRightShift,
-        8 => CellOp::And,
-        9 => CellOp::Or,
-        10 => CellOp::Add,
-        11 => CellOp::Sub,
-        12 => CellOp::Mul,
-        13 => CellOp::Div,
-        14 => CellOp::Rem,
-        15 => CellOp::FloatAdd,
-        16 => CellOp::FloatSub,
-        17 => CellOp::FloatMul,
-        18 => CellOp::FloatDiv,
+    match k {
+        15 => CellOp::Index,
+        17 => CellOp::BitwiseNand,
+        18 => CellOp::BitwiseAnd,
+        19 => CellOp::BitwiseOr,
+        20 => CellOp::BitwiseXor,
+        22 => CellOp::LeftShift,
+        23 => CellOp::LogicalRightShift,
+        24 => CellOp::ArithmeticRightShift,
+        25 => CellOp::And,
+        26 => CellOp::Or,
+        28 => CellOp::Add,
+        29 => CellOp::Sub,
+        30 => CellOp::Mul,
+        31 => CellOp::Div,
+        32 => CellOp::Rem,
+        45 => CellOp::FloatAdd,
+        46 => CellOp::FloatSub,
+        47 => CellOp::FloatMul,
+        48 => CellOp::FloatDiv,
         _ => CellOp::FloatRem,
     }
 }
 
-pub fn lane_numbered(number: u8) -> LaneOp
-    ensures { λ r. ⌜ r ≡ laneNumbered number ⌝ }
+pub fn lane_row(k: u8) -> LaneOp
+    ensures { λ r. ⌜ r ≡ laneRow k ⌝ }
 {
-    match number {
-        0 => LaneOp::BitwiseNot,
-        1 => LaneOp::Not,
-        2 => LaneOp::Neg,
-        3 => LaneOp::Inc,
-        4 => LaneOp::Dec,
-        5 => LaneOp::IsNonNegative,
-        6 => LaneOp::ToInt,
-        7 => LaneOp::ToFloat,
-        8 => LaneOp::FloatNeg,
+    match k {
+        21 => LaneOp::BitwiseNot,
+        27 => LaneOp::Not,
+        33 => LaneOp::Neg,
+        34 => LaneOp::Inc,
+        35 => LaneOp::Dec,
+        37 => LaneOp::IsNonNegative,
+        43 => LaneOp::ToInt,
+        44 => LaneOp::ToFloat,
+        50 => LaneOp::FloatNeg,
         _ => LaneOp::FloatIsNonNegative,
     }
 }

@@ -1,25 +1,23 @@
-// The lane loops over lent slices. Each leaves what lies beyond the first n lanes as it was. The two loops over an op are called with a constant number
+// The lane loops over lent slices. Each leaves what lies beyond the first n lanes as it was. The two loops over an op are called with a constant row
 // from a match outside them, so that nothing is dispatched at each lane.
 ghost use mathlib.Core.Path.{_≡_};
 ghost use Prim.Native.Nat.{_≤_};
 ghost use lib.ListN.{length};
 ghost use Rattle.lanes.specs.Int.{intAdd};
-ghost use Rattle.lanes.specs.Lane.{cellNumbered, laneNumbered, cellRule, laneRule, zipTo, mapTo, beside};
+ghost use Rattle.lanes.specs.Lane.{cellRow, laneRow, cellRule, laneRule, zipTo, mapTo, beside};
 use crate::int::int_offset;
-use crate::lane::CellOp;
-use crate::lane::LaneOp;
-use crate::lane::cell_numbered;
+use crate::lane::cell_row;
 use crate::lane::cell_rule;
-use crate::lane::lane_numbered;
+use crate::lane::lane_row;
 use crate::lane::lane_rule;
 
 // Each of the first n lanes by an op with the cell beside it.
-fn zip_lanes(number: u8, register: &mut [u64], cells: &[u64], n: usize)
+fn zip_lanes(k: u8, register: &mut [u64], cells: &[u64], n: usize)
     requires { ⌜ n ≤ length (now register) ⌝ }
     requires { ⌜ n ≤ length (now cells) ⌝ }
-    ensures { λ _. ⌜ now (register .exit) ≡ zipTo (cellRule (cellNumbered number)) n (now (register .entry)) (now (cells .entry)) ⌝ }
+    ensures { λ _. ⌜ now (register .exit) ≡ zipTo (cellRule (cellRow k)) n (now (register .entry)) (now (cells .entry)) ⌝ }
 {
-    let op = cell_numbered(number);
+    let op = cell_row(k);
     let mut lane = 0;
     while lane < n {
         register[lane] = cell_rule(op, register[lane], cells[lane]);
@@ -28,11 +26,11 @@ fn zip_lanes(number: u8, register: &mut [u64], cells: &[u64], n: usize)
 }
 
 // Each of the first n lanes by an op alone.
-fn map_lanes(number: u8, register: &mut [u64], n: usize)
+fn map_lanes(k: u8, register: &mut [u64], n: usize)
     requires { ⌜ n ≤ length (now register) ⌝ }
-    ensures { λ _. ⌜ now (register .exit) ≡ mapTo (laneRule (laneNumbered number)) n (now (register .entry)) ⌝ }
+    ensures { λ _. ⌜ now (register .exit) ≡ mapTo (laneRule (laneRow k)) n (now (register .entry)) ⌝ }
 {
-    let op = lane_numbered(number);
+    let op = lane_row(k);
     let mut i = 0;
     while i < n {
         register[i] = lane_rule(op, register[i]);
@@ -41,51 +39,51 @@ fn map_lanes(number: u8, register: &mut [u64], n: usize)
 }
 
 // Each of the first n lanes by an op with the cell beside it.
-pub fn cell_lanes(op: CellOp, register: &mut [u64], cells: &[u64], n: usize)
+pub fn cell_lanes(k: u8, register: &mut [u64], cells: &[u64], n: usize)
     requires { ⌜ n ≤ length (now register) ⌝ }
     requires { ⌜ n ≤ length (now cells) ⌝ }
-    ensures { λ _. ⌜ now (register .exit) ≡ zipTo (cellRule op) n (now (register .entry)) (now (cells .entry)) ⌝ }
+    ensures { λ _. ⌜ now (register .exit) ≡ zipTo (cellRule (cellRow k)) n (now (register .entry)) (now (cells .entry)) ⌝ }
 {
-    match op {
-        CellOp::Index => zip_lanes(0, register, cells, n),
-        CellOp::BitwiseNand => zip_lanes(1, register, cells, n),
-        CellOp::BitwiseAnd => zip_lanes(2, register, cells, n),
-        CellOp::BitwiseOr => zip_lanes(3, register, cells, n),
-        CellOp::BitwiseXor => zip_lanes(4, register, cells, n),
-        CellOp::LeftShift => zip_lanes(5, register, cells, n),
-        CellOp::LogicalRightShift => zip_lanes(6, register, cells, n),
-        CellOp::ArithmeticRightShift => zip_lanes(7, register, cells, n),
-        CellOp::And => zip_lanes(8, register, cells, n),
-        CellOp::Or => zip_lanes(9, register, cells, n),
-        CellOp::Add => zip_lanes(10, register, cells, n),
-        CellOp::Sub => zip_lanes(11, register, cells, n),
-        CellOp::Mul => zip_lanes(12, register, cells, n),
-        CellOp::Div => zip_lanes(13, register, cells, n),
-        CellOp::Rem => zip_lanes(14, register, cells, n),
-        CellOp::FloatAdd => zip_lanes(15, register, cells, n),
-        CellOp::FloatSub => zip_lanes(16, register, cells, n),
-        CellOp::FloatMul => zip_lanes(17, register, cells, n),
-        CellOp::FloatDiv => zip_lanes(18, register, cells, n),
-        CellOp::FloatRem => zip_lanes(19, register, cells, n),
+    match k {
+        15 => zip_lanes(15, register, cells, n),
+        17 => zip_lanes(17, register, cells, n),
+        18 => zip_lanes(18, register, cells, n),
+        19 => zip_lanes(19, register, cells, n),
+        20 => zip_lanes(20, register, cells, n),
+        22 => zip_lanes(22, register, cells, n),
+        23 => zip_lanes(23, register, cells, n),
+        24 => zip_lanes(24, register, cells, n),
+        25 => zip_lanes(25, register, cells, n),
+        26 => zip_lanes(26, register, cells, n),
+        28 => zip_lanes(28, register, cells, n),
+        29 => zip_lanes(29, register, cells, n),
+        30 => zip_lanes(30, register, cells, n),
+        31 => zip_lanes(31, register, cells, n),
+        32 => zip_lanes(32, register, cells, n),
+        45 => zip_lanes(45, register, cells, n),
+        46 => zip_lanes(46, register, cells, n),
+        47 => zip_lanes(47, register, cells, n),
+        48 => zip_lanes(48, register, cells, n),
+        _ => zip_lanes(49, register, cells, n),
     }
 }
 
 // Each of the first n lanes by an op alone.
-pub fn alone_lanes(op: LaneOp, register: &mut [u64], n: usize)
+pub fn alone_lanes(k: u8, register: &mut [u64], n: usize)
     requires { ⌜ n ≤ length (now register) ⌝ }
-    ensures { λ _. ⌜ now (register .exit) ≡ mapTo (laneRule op) n (now (register .entry)) ⌝ }
+    ensures { λ _. ⌜ now (register .exit) ≡ mapTo (laneRule (laneRow k)) n (now (register .entry)) ⌝ }
 {
-    match op {
-        LaneOp::BitwiseNot => map_lanes(0, register, n),
-        LaneOp::Not => map_lanes(1, register, n),
-        LaneOp::Neg => map_lanes(2, register, n),
-        LaneOp::Inc => map_lanes(3, register, n),
-        LaneOp::Dec => map_lanes(4, register, n),
-        LaneOp::IsNonNegative => map_lanes(5, register, n),
-        LaneOp::ToInt => map_lanes(6, register, n),
-        LaneOp::ToFloat => map_lanes(7, register, n),
-        LaneOp::FloatNeg => map_lanes(8, register, n),
-        LaneOp::FloatIsNonNegative => map_lanes(9, register, n),
+    match k {
+        21 => map_lanes(21, register, n),
+        27 => map_lanes(27, register, n),
+        33 => map_lanes(33, register, n),
+        34 => map_lanes(34, register, n),
+        35 => map_lanes(35, register, n),
+        37 => map_lanes(37, register, n),
+        43 => map_lanes(43, register, n),
+        44 => map_lanes(44, register, n),
+        50 => map_lanes(50, register, n),
+        _ => map_lanes(51, register, n),
     }
 }
 

@@ -2,15 +2,16 @@
 ghost use mathlib.Core.Path.{_≡_};
 ghost use Prim.Native.Nat.{ℕ, _+_, _≤_, _<_};
 ghost use lib.ListN.{length};
+ghost use Rattle.lanes.specs.Lane.{cellRow, laneRow};
 ghost use Rattle.machine_ops.specs.Place.{laned, swapped};
 ghost use Rattle.machine_ops.specs.Lane.{cellOf, swapOf, aloneOf, offsetOf};
 use crate::place::Hop;
 use crate::place::Place;
 
 impl Place {
-    pub fn cell(self, op: lanes::lane::CellOp, n: usize, register: &mut [u64], tape: &[u64]) -> Hop
+    pub fn cell(self, k: u8, n: usize, register: &mut [u64], tape: &[u64]) -> Hop
         requires { ⌜ (self .pointer ≤ 1000000000) × (self .position < 4096) × (n ≤ 1024) × (1024 ≤ length (now register)) ⌝ }
-        ensures { λ r. ⌜ laned r (now (register .exit)) ≡ cellOf op n self (now (register .entry)) (now (tape .entry)) ⌝ }
+        ensures { λ r. ⌜ laned r (now (register .exit)) ≡ cellOf (cellRow k) n self (now (register .entry)) (now (tape .entry)) ⌝ }
     {
         let at = self.pointer;
         let l = self.length;
@@ -23,7 +24,7 @@ impl Place {
         if tape.len() < at + n {
             return self.refuse(23);
         }
-        lanes::loops::cell_lanes(op, register, &tape[at..], n);
+        lanes::loops::cell_lanes(k, register, &tape[at..], n);
         self.next()
     }
 
@@ -46,11 +47,11 @@ impl Place {
         self.next()
     }
 
-    pub fn alone(self, op: lanes::lane::LaneOp, n: usize, register: &mut [u64]) -> Hop
+    pub fn alone(self, k: u8, n: usize, register: &mut [u64]) -> Hop
         requires { ⌜ (self .position < 4096) × (n ≤ 1024) × (1024 ≤ length (now register)) ⌝ }
-        ensures { λ r. ⌜ laned r (now (register .exit)) ≡ aloneOf op n self (now (register .entry)) ⌝ }
+        ensures { λ r. ⌜ laned r (now (register .exit)) ≡ aloneOf (laneRow k) n self (now (register .entry)) ⌝ }
     {
-        lanes::loops::alone_lanes(op, register, n);
+        lanes::loops::alone_lanes(k, register, n);
         self.next()
     }
 

@@ -7,6 +7,7 @@ use Rattle.lanes.specs.declared.lane.CellOp.{CellOp}
 use Rattle.lanes.specs.declared.lane.CellOp.the-variants.{Index, BitwiseNand, BitwiseAnd, BitwiseOr, BitwiseXor, LeftShift, LogicalRightShift, ArithmeticRightShift, And, Or, Add, Sub, Mul, Div, Rem, FloatAdd, FloatSub, FloatMul, FloatDiv, FloatRem}
 use Rattle.lanes.specs.declared.lane.LaneOp.{LaneOp}
 use Rattle.lanes.specs.declared.lane.LaneOp.the-variants.{BitwiseNot, Not, Neg, Inc, Dec, IsNonNegative, ToInt, ToFloat, FloatNeg, FloatIsNonNegative}
+use Rattle.lanes.specs.Lane.{cellRow, laneRow}
 use Rattle.ops.specs.Kinds.{indexOf}
 use Rattle.ops.specs.Op.{Control, Plain, Sort, Op, mark, isFunction, isWhile, kindOf, controlKind, plainKind, setKind, cellKind, laneKind}
 use Rattle.ops.specs.Op.Control.{function, call, ret, while, if, else, end}
@@ -15,7 +16,7 @@ use Rattle.ops.specs.Op.Sort.{ints, floats}
 use Rattle.ops.specs.Op.Op.{control, set, load, plain}
 use Rattle.machine_ops.specs.Place.{pick}
 use Rattle.searches.specs.Found.{rowMark, rowFunction}
-use Rattle.machine_step.specs.Family.{familyOf, cellRow, laneRow}
+use Rattle.machine_step.specs.Family.{familyOf}
 
 -- the row k is to the searches what the op o is
 pub record Told (k : ℕ) (o : Op) : Type 0 where

@@ -3,6 +3,7 @@ use mathlib.Core.List.{List}
 use Prim.Native.Nat.{ℕ}
 use lib.ListN.{getD}
 use lib.Dec.{ltb, eqb}
+use Rattle.lanes.specs.Lane.{cellRow, laneRow}
 use Rattle.ops.specs.Bytes.{u64At}
 use Rattle.machine_ops.specs.Place.{pick, hop}
 use Rattle.machine_ops.specs.Control.{controlOf}
@@ -10,7 +11,7 @@ use Rattle.machine_ops.specs.Tape.{tapeOf}
 use Rattle.machine_ops.specs.Lane.{cellOf, swapOf, aloneOf, offsetOf}
 use Rattle.machine_ops.specs.Device.{deviceOf}
 use Rattle.machine_step.specs.Held.{Held, After, steering, laning, swapping, taping, telling, Code}
-use Rattle.machine_step.specs.Family.{familyOf, cellRow, laneRow}
+use Rattle.machine_step.specs.Family.{familyOf}
 
 -- the op of row k that counts n, with its payload at byte a
 unfoldable pub opOf : ℕ → ℕ → ℕ → List ℕ → List ℕ → List ℕ → Held → After

@@ -7,9 +7,7 @@ ghost use Rattle.searches.specs.Found.{partnerOf};
 ghost use Rattle.machine_step.specs.Held.{held, after, code};
 ghost use Rattle.machine_step.specs.Step.{opOf, stepOf};
 ghost use Rattle.machine_step.specs.Fine.{Fine};
-use crate::family::cell_op;
 use crate::family::family_of;
-use crate::family::lane_op;
 use machine_ops::place::Hop;
 use machine_ops::place::Place;
 
@@ -49,14 +47,8 @@ fn op(
     let f = family_of(k);
     match f {
         1 => h.control(k, with, kinds, calls, register, table),
-        2 => {
-            let o = cell_op(k);
-            h.cell(o, n, register, tape)
-        }
-        3 => {
-            let o = lane_op(k);
-            h.alone(o, n, register)
-        }
+        2 => h.cell(k, n, register, tape),
+        3 => h.alone(k, n, register),
         4 => h.device(k, a, register, channel, output, input, bytes),
         5 => {
             let by = ops::bytes::u64_at(bytes, a);

@@ -1,51 +1,42 @@
--- `lanes::loops::alone_lanes` meets its contract: each arm is the loop's own contract at the op that the arm knows. Assumes nothing.
+-- `lanes::loops::alone_lanes` meets its contract: each arm is the loop's own contract at the row that the arm knows. Assumes nothing.
+use borrow.Author.Tests.{ne-eqb}
 use borrow.Author.Needs.{needs}
-use Rattle.lanes.specs.Lane.{laneNumbered}
+use Rattle.lanes.specs.Lane.{laneRow}
 use Rattle.lanes.proofs.loops.alone_lanes.Statement.{statement}
 use Rattle.lanes.proofs.loops.alone_lanes.Tie as tie
 
 pub alone-lanes-spec : {M : Type 1} → statement M
-unfolding laneNumbered
+unfolding laneRow
 alone-lanes-spec =
     tie.close
     (tie.spec
-    (λ c. search needs)
+    (λ c κs. search needs)
+    (λ c κs. search needs)
+    (λ c κs. search needs)
+    (λ c κs. search needs)
+    (λ c κs. search needs)
+    (λ c κs. search needs)
+    (λ c κs. search needs)
+    (λ c κs. search needs)
+    (λ c κs. search needs)
     (λ c κs. search needs)
     (λ c. search needs)
-    (λ c κs. search needs)
+    (λ c. rw (c .before .before .before .before .match .keys1) (c .before .before .map-lanes .ensures))
     (λ c. search needs)
-    (λ c κs. search needs)
+    (λ c. rw (c .before .before .before .before .match .keys2) (c .before .before .map-lanes2 .ensures))
     (λ c. search needs)
-    (λ c κs. search needs)
+    (λ c. rw (c .before .before .before .before .match .keys3) (c .before .before .map-lanes3 .ensures))
     (λ c. search needs)
-    (λ c κs. search needs)
+    (λ c. rw (c .before .before .before .before .match .keys4) (c .before .before .map-lanes4 .ensures))
     (λ c. search needs)
-    (λ c κs. search needs)
+    (λ c. rw (c .before .before .before .before .match .keys5) (c .before .before .map-lanes5 .ensures))
     (λ c. search needs)
-    (λ c κs. search needs)
+    (λ c. rw (c .before .before .before .before .match .keys6) (c .before .before .map-lanes6 .ensures))
     (λ c. search needs)
-    (λ c κs. search needs)
+    (λ c. rw (c .before .before .before .before .match .keys7) (c .before .before .map-lanes7 .ensures))
     (λ c. search needs)
-    (λ c κs. search needs)
+    (λ c. rw (c .before .before .before .before .match .keys8) (c .before .before .map-lanes8 .ensures))
     (λ c. search needs)
-    (λ c κs. search needs)
+    (λ c. rw (c .before .before .before .before .match .keys9) (c .before .before .map-lanes9 .ensures))
     (λ c. search needs)
-    (λ c. rw (c .before .before .before .before .enum-told .given .1) (c .before .before .map-lanes .ensures))
-    (λ c. search needs)
-    (λ c. rw (c .before .before .before .before .enum-told2 .given .1) (c .before .before .map-lanes2 .ensures))
-    (λ c. search needs)
-    (λ c. rw (c .before .before .before .before .enum-told3 .given .1) (c .before .before .map-lanes3 .ensures))
-    (λ c. search needs)
-    (λ c. rw (c .before .before .before .before .enum-told4 .given .1) (c .before .before .map-lanes4 .ensures))
-    (λ c. search needs)
-    (λ c. rw (c .before .before .before .before .enum-told5 .given .1) (c .before .before .map-lanes5 .ensures))
-    (λ c. search needs)
-    (λ c. rw (c .before .before .before .before .enum-told6 .given .1) (c .before .before .map-lanes6 .ensures))
-    (λ c. search needs)
-    (λ c. rw (c .before .before .before .before .enum-told7 .given .1) (c .before .before .map-lanes7 .ensures))
-    (λ c. search needs)
-    (λ c. rw (c .before .before .before .before .enum-told8 .given .1) (c .before .before .map-lanes8 .ensures))
-    (λ c. search needs)
-    (λ c. rw (c .before .before .before .before .enum-told9 .given .1) (c .before .before .map-lanes9 .ensures))
-    (λ c. search needs)
-    (λ c. rw (c .before .before .before .before .enum-told10 .given .1) (c .before .before .map-lanes10 .ensures)))
+    (λ c. rw (ne-eqb _ _ (c .before .before .before .before .match .rest .0 .0 .0 .0 .0 .0 .0 .0 .1), ne-eqb _ _ (c .before .before .before .before .match .rest .0 .0 .0 .0 .0 .0 .0 .1), ne-eqb _ _ (c .before .before .before .before .match .rest .0 .0 .0 .0 .0 .0 .1), ne-eqb _ _ (c .before .before .before .before .match .rest .0 .0 .0 .0 .0 .1), ne-eqb _ _ (c .before .before .before .before .match .rest .0 .0 .0 .0 .1), ne-eqb _ _ (c .before .before .before .before .match .rest .0 .0 .0 .1), ne-eqb _ _ (c .before .before .before .before .match .rest .0 .0 .1), ne-eqb _ _ (c .before .before .before .before .match .rest .0 .1), ne-eqb _ _ (c .before .before .before .before .match .rest .1)) (c .before .before .map-lanes10 .ensures)))

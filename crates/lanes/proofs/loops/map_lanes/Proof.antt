@@ -10,10 +10,10 @@ use Rattle.lanes.proofs.loops.map_lanes.Statement.{statement}
 use Rattle.lanes.proofs.loops.map_lanes.Tie as tie
 
 abbrev Inv-loop : tie.InvT-loop
-Inv-loop number register₀ n op i₀ register i = (i ≤ n) × (length register ≡ length register₀) × (register ≡ mapTo (laneRule op) i register₀)
+Inv-loop k register₀ n op i₀ register i = (i ≤ n) × (length register ≡ length register₀) × (register ≡ mapTo (laneRule op) i register₀)
 
 abbrev μ-loop : tie.MeasureT-loop
-μ-loop number register₀ n op i₀ register i = n - i
+μ-loop k register₀ n op i₀ register i = n - i
 
 loop-holds : tie.Need-loop-holds Inv-loop μ-loop
 unfolding mapTo

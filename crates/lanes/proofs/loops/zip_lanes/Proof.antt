@@ -10,10 +10,10 @@ use Rattle.lanes.proofs.loops.zip_lanes.Statement.{statement}
 use Rattle.lanes.proofs.loops.zip_lanes.Tie as tie
 
 abbrev Inv-loop : tie.InvT-loop
-Inv-loop number register₀ cells n op lane₀ register lane = (lane ≤ n) × (length register ≡ length register₀) × (register ≡ zipTo (cellRule op) lane register₀ cells)
+Inv-loop k register₀ cells n op lane₀ register lane = (lane ≤ n) × (length register ≡ length register₀) × (register ≡ zipTo (cellRule op) lane register₀ cells)
 
 abbrev μ-loop : tie.MeasureT-loop
-μ-loop number register₀ cells n op lane₀ register lane = n - lane
+μ-loop k register₀ cells n op lane₀ register lane = n - lane
 
 loop-holds : tie.Need-loop-holds Inv-loop μ-loop
 unfolding zipTo

@@ -21,11 +21,11 @@ returns c = rw (← c .before .before .before .before .before .before .before .f
 
 returns-2 : tie.Need-returns-2
 unfolding opOf pick
-returns-2 c = rw (← c .before .before .before .before .before .before .before .family-of .ensures, c .before .before .before .before .before .before .match .keys2, ← c .before .before .before .before .before .cell-op .ensures, ← c .before .before .cell .ensures) refl
+returns-2 c = rw (← c .before .before .before .before .before .before .family-of .ensures, c .before .before .before .before .before .match .keys2, ← c .before .before .cell .ensures) refl
 
 returns-3 : tie.Need-returns-3
 unfolding opOf pick
-returns-3 c = rw (← c .before .before .before .before .before .before .family-of .ensures, c .before .before .before .before .before .match .keys3, ← c .before .before .before .before .lane-op .ensures, ← c .before .before .alone .ensures) refl
+returns-3 c = rw (← c .before .before .before .before .before .family-of .ensures, c .before .before .before .before .match .keys3, ← c .before .before .alone .ensures) refl
 
 returns-4 : tie.Need-returns-4
 unfolding opOf pick
@@ -49,8 +49,6 @@ op-spec =
     (tie.spec
     (λ c κs. search needs)
     control-requires
-    (λ c κs. search needs)
-    (λ c κs. search needs)
     (λ c κs. search needs)
     (λ c κs. search needs)
     (λ c κs. search needs)

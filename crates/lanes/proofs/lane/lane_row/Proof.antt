@@ -1,13 +1,13 @@
--- `lanes::lane::lane_numbered` meets its contract: each arm is the definition's own test. Assumes nothing.
-use Rattle.lanes.specs.Lane.{laneNumbered}
+-- `lanes::lane::lane_row` meets its contract: each arm is the definition's own test. Assumes nothing.
+use Rattle.lanes.specs.Lane.{laneRow}
 use borrow.Author.Tests.{ne-eqb}
 use mathlib.Core.Path.{refl}
-use Rattle.lanes.proofs.lane.lane_numbered.Statement.{statement}
-use Rattle.lanes.proofs.lane.lane_numbered.Tie as tie
+use Rattle.lanes.proofs.lane.lane_row.Statement.{statement}
+use Rattle.lanes.proofs.lane.lane_row.Tie as tie
 
-pub lane-numbered-spec : {M : Type 1} → statement M
-unfolding laneNumbered
-lane-numbered-spec =
+pub lane-row-spec : {M : Type 1} → statement M
+unfolding laneRow
+lane-row-spec =
     tie.close
     (tie.spec
     (λ c. rw (c .match .keys1) refl)

@@ -1,13 +1,13 @@
--- `lanes::lane::cell_numbered` meets its contract: each arm is the definition's own test. Assumes nothing.
-use Rattle.lanes.specs.Lane.{cellNumbered}
+-- `lanes::lane::cell_row` meets its contract: each arm is the definition's own test. Assumes nothing.
+use Rattle.lanes.specs.Lane.{cellRow}
 use borrow.Author.Tests.{ne-eqb}
 use mathlib.Core.Path.{refl}
-use Rattle.lanes.proofs.lane.cell_numbered.Statement.{statement}
-use Rattle.lanes.proofs.lane.cell_numbered.Tie as tie
+use Rattle.lanes.proofs.lane.cell_row.Statement.{statement}
+use Rattle.lanes.proofs.lane.cell_row.Tie as tie
 
-pub cell-numbered-spec : {M : Type 1} → statement M
-unfolding cellNumbered
-cell-numbered-spec =
+pub cell-row-spec : {M : Type 1} → statement M
+unfolding cellRow
+cell-row-spec =
     tie.close
     (tie.spec
     (λ c. rw (c .match .keys1) refl)
