@@ -11,7 +11,7 @@ use Rattle.ops.specs.Op.{Op}
 use Rattle.ops.specs.Patch.{patchOf}
 use Rattle.ops.specs.Ops.{opAt}
 use Rattle.ops.specs.Ops.Patch.{ops, refused}
-use Rattle.ops.proofs.Meaning.{ops-are, refused-are}
+use Rattle.file_laws.proofs.Meaning.{ops-are, refused-are}
 use Rattle.testing_device.proofs.Words.{byCase, and-left}
 use Rattle.machine_model.specs.State.{State}
 use Rattle.machine_model.specs.Step.{step}

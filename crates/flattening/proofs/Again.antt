@@ -13,8 +13,8 @@ use Rattle.ops.specs.Patch.{patchOf}
 use Rattle.ops.specs.Ops.{opsOf}
 use Rattle.ops.specs.Ops.Patch.{ops}
 use Rattle.ops.specs.Write.{encodeAll, Below, Fits, Each}
-use Rattle.ops.proofs.Fitting.{each-append, file-fit}
-use Rattle.ops.proofs.RoundTrip.{ops-back}
+use Rattle.file_laws.proofs.Fitting.{each-append, file-fit}
+use Rattle.file_laws.proofs.RoundTrip.{ops-back}
 use Rattle.machine_model.proofs.Scans.{clash}
 use Rattle.flattening.specs.Flatten.{notes, Numbered, number, body, bodies, gathered, others, laid, flatten}
 use Rattle.flattening.specs.declared.answer.Body.{Body}

@@ -16,12 +16,12 @@ use Rattle.ops.specs.Ops.{Patch, opsOf}
 use Rattle.ops.specs.Ops.Patch.{ops}
 use Rattle.ops.specs.Patch.{patchOf}
 use Rattle.ops.specs.Write.{le16, le32, recordOf, placed, payloadOf, encode, encodeAll, Below}
-use Rattle.ops.proofs.Digits.{after, at32}
-use Rattle.ops.proofs.Fitting.{short, below-all}
-use Rattle.ops.proofs.Meaning.{ops-are}
-use Rattle.ops.proofs.Rewritten.{bytes-back}
+use Rattle.file_laws.proofs.Digits.{after, at32}
+use Rattle.file_laws.proofs.Fitting.{short, below-all}
+use Rattle.file_laws.proofs.Meaning.{ops-are}
+use Rattle.file_laws.proofs.Rewritten.{bytes-back}
 use Rattle.ops.proofs.Storage.{placed-none, placed-then, length-placed}
-use Rattle.ops.proofs.Written.{length-encode, encode-append, parts, ends}
+use Rattle.file_laws.proofs.Written.{length-encode, encode-append, parts, ends}
 use Rattle.flattening.specs.Flatten.{body}
 use Rattle.flattening.specs.Scope.{partOf}
 use Rattle.flattening.specs.Flattened.{held, opsIn}

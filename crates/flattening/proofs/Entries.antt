@@ -16,8 +16,8 @@ use Rattle.ops.specs.Ops.{Patch, opsOf}
 use Rattle.ops.specs.Ops.Patch.{ops}
 use Rattle.ops.specs.Patch.{patchOf}
 use Rattle.ops.specs.Write.{Below, encodeAll, marksIn}
-use Rattle.ops.proofs.Fitting.{few-marks-in}
-use Rattle.ops.proofs.Meaning.{refused-are}
+use Rattle.file_laws.proofs.Fitting.{few-marks-in}
+use Rattle.file_laws.proofs.Meaning.{refused-are}
 use Rattle.machine_model.proofs.Outcomes.{or-right}
 use Rattle.machine_model.proofs.Scans.{clash}
 use Rattle.flattening.specs.Flatten.{notes, Numbered, number, bodies, others, laid, flatten, Flat}

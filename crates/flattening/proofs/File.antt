@@ -15,11 +15,11 @@ use Rattle.ops.specs.Patch.{Item, kindIn, markOf, patchOf, readOf}
 use Rattle.ops.specs.Ops.{rows, rowAt, opWith, opAt}
 use Rattle.ops.specs.Write.{encodeAll, markIn, marksIn}
 use Rattle.ops.specs.declared.reader.Read.{Read}
-use Rattle.ops.proofs.Encoded.{known}
-use Rattle.ops.proofs.Items.{IsItem, Every, items-are}
-use Rattle.ops.proofs.Fitting.{below-all}
-use Rattle.ops.proofs.Loaded as loaded
-use Rattle.ops.proofs.Meaning.{means, ops-are, refused-are}
+use Rattle.file_laws.proofs.Encoded.{known}
+use Rattle.file_laws.proofs.Items.{IsItem, Every, items-are}
+use Rattle.file_laws.proofs.Fitting.{below-all}
+use Rattle.file_laws.proofs.Loaded as loaded
+use Rattle.file_laws.proofs.Meaning.{means, ops-are, refused-are}
 use Rattle.ops.proofs.Whole.{tells}
 use Rattle.flattening.specs.Flatten.{Note, note, notes, Numbered, number, body, bodies, gathered, others, laid, flatten, Flat}
 use Rattle.flattening.specs.Flatten.Note.{stays}

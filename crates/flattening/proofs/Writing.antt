@@ -15,7 +15,7 @@ use Rattle.flattening.specs.declared.answer.Body.{Body}
 use Rattle.flattening.specs.Scope.{listed}
 use Rattle.flattening.specs.Flattened.{numberIn, firstIn, countIn}
 use Rattle.flattening.proofs.Flags.{others-listed, listed-over, listed-at}
-use Rattle.ops.proofs.Written.{encode-append}
+use Rattle.file_laws.proofs.Written.{encode-append}
 use Rattle.flattening.proofs.Copying.{encode-length}
 
 -- ---- storage that is filled part by part

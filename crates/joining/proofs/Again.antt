@@ -15,9 +15,9 @@ use Rattle.ops.specs.Ops.{opsOf}
 use Rattle.ops.specs.Ops.Patch.{ops, refused}
 use Rattle.ops.specs.Op.{Op, argOf, valuesOf}
 use Rattle.ops.specs.Write.{encodeAll, Below, Fits, markIn, marksIn, AllFit}
-use Rattle.ops.proofs.Fitting.{file-fit}
-use Rattle.ops.proofs.Rewritten.{bytes-back}
-use Rattle.ops.proofs.RoundTrip.{ops-back}
+use Rattle.file_laws.proofs.Fitting.{file-fit}
+use Rattle.file_laws.proofs.Rewritten.{bytes-back}
+use Rattle.file_laws.proofs.RoundTrip.{ops-back}
 use Rattle.joining.specs.Join.{join}
 use Rattle.joining.specs.Joined.{Outcome, outcome, write, joinedAs, joinOf, numberOf, placeOf, lengthOf}
 use Rattle.joining.specs.declared.join.Joined.{Joined}

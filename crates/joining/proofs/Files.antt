@@ -13,11 +13,11 @@ use Rattle.ops.specs.Ops.{opAt, opsOf}
 use Rattle.ops.specs.Ops.Patch.{ops}
 use Rattle.ops.specs.Write.{encodeAll, Below}
 use Rattle.ops.specs.declared.reader.Read.{Read}
-use Rattle.ops.proofs.Items.{few-items}
-use Rattle.ops.proofs.Loaded as loaded
-use Rattle.ops.proofs.Meaning.{ops-are, refused-are}
-use Rattle.ops.proofs.Fitting.{below-all}
-use Rattle.ops.proofs.Rewritten.{bytes-back}
+use Rattle.file_laws.proofs.Items.{few-items}
+use Rattle.file_laws.proofs.Loaded as loaded
+use Rattle.file_laws.proofs.Meaning.{ops-are, refused-are}
+use Rattle.file_laws.proofs.Fitting.{below-all}
+use Rattle.file_laws.proofs.Rewritten.{bytes-back}
 use Rattle.joining.specs.Join.{join}
 use Rattle.joining.specs.Joined.{outcome, joinedAs, joinOf}
 use Rattle.joining.specs.Stack.{stack, Holds, after, opOf, file, Within}

@@ -12,7 +12,7 @@ use Rattle.ops.specs.Op.Plain.{move}
 use Rattle.ops.specs.Op.Op.{plain}
 use Rattle.ops.specs.Write.{Each}
 use Rattle.ops.proofs.Clash.{clash}
-use Rattle.ops.proofs.Fitting.{each-append}
+use Rattle.file_laws.proofs.Fitting.{each-append}
 use Rattle.joining.specs.Join.{Rule, both, alike, decided, tested, total, rule, moved, react, op, pushes, join}
 use Rattle.joining.specs.Join.Rule.{push, skip, pop, again, under, sum}
 

@@ -23,14 +23,14 @@ use Rattle.ops.specs.Op.Sort.{ints}
 use Rattle.ops.specs.Op.Op.{set, plain}
 use Rattle.ops.specs.Write.{le16, le32, le64, recordOf, valueBytes, encode, encodeAll, placed, Below}
 use Rattle.ops.proofs.TextAt.{length-text}
-use Rattle.ops.proofs.BytesBack.{text-add}
-use Rattle.ops.proofs.Digits.{length-le64}
+use Rattle.file_laws.proofs.BytesBack.{text-add}
+use Rattle.file_laws.proofs.Digits.{length-le64}
 use Rattle.ops.proofs.Storage.{placed-then, placed-none}
 use Rattle.ops.proofs.Whole.{tells}
-use Rattle.ops.proofs.Items.{IsItem}
-use Rattle.ops.proofs.Rewritten.{record-again}
+use Rattle.file_laws.proofs.Items.{IsItem}
+use Rattle.file_laws.proofs.Rewritten.{record-again}
 use Rattle.ops.proofs.Clash.{clash}
-use Rattle.ops.proofs.Written.{encode-append}
+use Rattle.file_laws.proofs.Written.{encode-append}
 use Rattle.joining.specs.Stack.{Entry, entry, valued, valueOf, pushOn, itemAt, Holds, after, opWithin, opOf, stack, file, Within}
 use Rattle.joining.proofs.Seen.{is-item}
 

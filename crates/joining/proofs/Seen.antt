@@ -18,8 +18,8 @@ use Rattle.ops.specs.Op.Plain.{move}
 use Rattle.ops.specs.Op.Sort.{ints}
 use Rattle.ops.specs.Op.Op.{set, plain}
 use Rattle.ops.proofs.ValuesAt.{length-values}
-use Rattle.ops.proofs.Items.{IsItem, item-at}
-use Rattle.ops.proofs.Meaning.{means}
+use Rattle.file_laws.proofs.Items.{IsItem, item-at}
+use Rattle.file_laws.proofs.Meaning.{means}
 use Rattle.joining.specs.Join.{Rule, total, tested, rule, moved, react, op, pushes, join}
 use Rattle.joining.specs.Join.Rule.{push, skip, pop, again, under, sum}
 use Rattle.joining.specs.declared.stack.Met.{Met}

@@ -21,7 +21,7 @@ use Rattle.machine.specs.declared.machine.Machine.{Machine}
 use Rattle.machine.proofs.WellFormed.{formed-fits, fits-formed}
 use Rattle.machine.proofs.Started.{fresh-fits}
 use Rattle.machine.proofs.Turns.{once-is}
-use Rattle.ops.proofs.Loaded.{number-is, good-file, bad-file, bad-place}
+use Rattle.file_laws.proofs.Loaded.{number-is, good-file, bad-file, bad-place}
 
 module _ (s input : List ℕ) where
   -- ---- refused before any step: the file's refusal, and then 37

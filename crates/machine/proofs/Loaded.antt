@@ -6,7 +6,7 @@ use lib.ListN.{take}
 use Rattle.ops.specs.Storage.{fill}
 use Rattle.ops.specs.Patch.{kindIn, countIn, needIn, placeIn, patchOf, readOf}
 use Rattle.ops.specs.declared.reader.Read.{Read}
-use Rattle.ops.proofs.Loaded.{part-is}
+use Rattle.file_laws.proofs.Loaded.{part-is}
 use Rattle.machine_step.specs.Held.{code}
 use Rattle.machine_step.specs.Decoded.{codeOf}
 

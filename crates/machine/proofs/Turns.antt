@@ -11,7 +11,7 @@ use mir.Val
 use mir.Syntax.{w8}
 use borrow.Author.Tests.{leb-false, eq-eqb, ne-eqb, eqb-false}
 use Rattle.ops.specs.Patch.{patchOf}
-use Rattle.ops.proofs.Items.{few-items}
+use Rattle.file_laws.proofs.Items.{few-items}
 use Rattle.testing_device.proofs.Words.{byCase}
 use Rattle.machine_model.specs.Step.{Outcome, step}
 use Rattle.machine_model.specs.Step.Outcome.{next}

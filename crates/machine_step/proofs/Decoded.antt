@@ -17,10 +17,10 @@ use Rattle.ops.specs.Op.Op.{plain}
 use Rattle.ops.specs.Write.{Fits}
 use Rattle.ops.specs.Ops as file
 use Rattle.ops.proofs.Whole.{Tells, tells}
-use Rattle.ops.proofs.Items.{IsItem, Every, items-are, item-at, few-items, marksIn, few-marks}
-use Rattle.ops.proofs.Rows.{Row, row-rule}
-use Rattle.ops.proofs.Fitting.{below-all, item-fits}
-use Rattle.ops.proofs.Meaning.{means}
+use Rattle.file_laws.proofs.Items.{IsItem, Every, items-are, item-at, few-items, marksIn, few-marks}
+use Rattle.file_laws.proofs.Rows.{Row, row-rule}
+use Rattle.file_laws.proofs.Fitting.{below-all, item-fits}
+use Rattle.file_laws.proofs.Meaning.{means}
 use Rattle.testing_device.proofs.Words.{byCase}
 use Rattle.machine_model.specs.Scan.{opAt, marks, functions}
 use Rattle.machine_model.specs.Limited.{count, Limited}

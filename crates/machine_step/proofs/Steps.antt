@@ -17,7 +17,7 @@ use Rattle.ops.specs.Op.Sort.{ints, floats}
 use Rattle.ops.specs.Op.Op.{control, set, load, plain}
 use Rattle.ops.specs.Ops.{modeIn, rowAt, opWith, plainWith, opCount, plainCount}
 use Rattle.ops.specs.Ops as file
-use Rattle.ops.proofs.Meaning.{means}
+use Rattle.file_laws.proofs.Meaning.{means}
 use Rattle.testing_device.proofs.Words.{byCase}
 use Rattle.machine_model.specs.State.{Given}
 use Rattle.machine_model.specs.Scan.{opAt, functions}

@@ -10,7 +10,7 @@ use Rattle.ops.specs.Op.{Op}
 use Rattle.ops.specs.Patch.{patchOf}
 use Rattle.ops.specs.Ops.{Patch, opAt, opsOf}
 use Rattle.ops.specs.Ops.Patch.{ops, refused}
-use Rattle.ops.proofs.Meaning.{ops-are, refused-are}
+use Rattle.file_laws.proofs.Meaning.{ops-are, refused-are}
 use Rattle.machine_model.proofs.Scans.{clash}
 use Rattle.patch_check.specs.Rules.{KeepsRules}
 use Rattle.patch_check.specs.Verdict.{numberOf}

@@ -6,9 +6,9 @@ use lib.ListN.{take}
 use Rattle.ops.specs.Storage.{fill}
 use Rattle.ops.specs.Patch.{kindIn, countIn, patchOf, readOf}
 use Rattle.ops.specs.declared.reader.Read.{Read}
-use Rattle.ops.proofs.Items.{items-are}
-use Rattle.ops.proofs.Loaded as loaded
-use Rattle.ops.proofs.Meaning.{ops-are, refused-are}
+use Rattle.file_laws.proofs.Items.{items-are}
+use Rattle.file_laws.proofs.Loaded as loaded
+use Rattle.file_laws.proofs.Meaning.{ops-are, refused-are}
 use Rattle.machine_model.specs.State.{lanes}
 use Rattle.patch_check.specs.Check.{check}
 use Rattle.patch_check.specs.Rows.{rowScan}

@@ -15,10 +15,10 @@ use Rattle.ops.specs.Kinds.{need, after}
 use Rattle.ops.specs.Patch.{Item, kindIn, countIn}
 use Rattle.ops.specs.Ops.{rows, rowAt, plainWith, opWith, opAt, plainCount, opCount}
 use Rattle.ops.proofs.Whole.{Tells, tells}
-use Rattle.ops.proofs.Items.{IsItem, Every}
-use Rattle.ops.proofs.Tested.{and-left, and-right, at}
-use Rattle.ops.proofs.Rows.{controlRule, plainRule, rule, Row, row-rule}
-use Rattle.ops.proofs.Meaning.{means}
+use Rattle.file_laws.proofs.Items.{IsItem, Every}
+use Rattle.file_laws.proofs.Tested.{and-left, and-right, at}
+use Rattle.file_laws.proofs.Rows.{controlRule, plainRule, rule, Row, row-rule}
+use Rattle.file_laws.proofs.Meaning.{means}
 use Rattle.patch_check.specs.Rules.{opens, closes, asks, leaves}
 use Rattle.patch_check.specs.Check.{strayEnd, strayElse, depth, from, ended, scan}
 use Rattle.patch_check.specs.Rows.{opensOf, endsOf, elsesOf, needOf, afterOf, fromOf, rowScan}

@@ -2,7 +2,7 @@
 use mathlib.Core.Path.{refl}
 use native.Mathlib.Omega.{arith}
 use Rattle.ops.specs.Patch.{kindIn, countIn, placeIn}
-use Rattle.ops.proofs.Loaded.{few}
+use Rattle.file_laws.proofs.Loaded.{few}
 use Rattle.joining.proofs.Files.{all-below, array-long, bad-file, no-room, holds, entries-within, file-fits, all-joined}
 use borrow.Author.Needs.{needs}
 use Rattle.joining.proofs.join.join.Statement.{statement}

@@ -2,7 +2,7 @@
 use mathlib.Core.Path.{_∙_, sym}
 use borrow.Author.Needs.{needs}
 use Rattle.ops.specs.Patch.{kindIn, countIn}
-use Rattle.ops.proofs.Loaded.{part-length, part-fits, part-few}
+use Rattle.file_laws.proofs.Loaded.{part-length, part-fits, part-few}
 use Rattle.patch_check.proofs.Loaded.{bad-file, good-file}
 use Rattle.patch_check.proofs.check.check.Statement.{statement}
 use Rattle.patch_check.proofs.check.check.Tie as tie

@@ -5,7 +5,7 @@ use borrow.Author.Tests.{not-true, not-false}
 use Rattle.ops.specs.Patch.{kindIn, countIn, needIn, placeIn}
 use Rattle.machine.specs.Answer.{numberOf, placeOf}
 use Rattle.machine.proofs.WellFormed.{room}
-use Rattle.ops.proofs.Loaded.{good-file, part-fits, part-length}
+use Rattle.file_laws.proofs.Loaded.{good-file, part-fits, part-length}
 use Rattle.machine.proofs.Loaded.{parts-read}
 use Rattle.machine.proofs.Turns.{bytes-of}
 use Rattle.machine.proofs.Called.{fresh-bad, fresh-cramped, going-fresh, fresh-called}

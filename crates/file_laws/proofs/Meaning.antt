@@ -7,20 +7,20 @@ use native.Mathlib.Omega.{arith}
 use borrow.Author.Tests.{eq-eqb, ne-eqb}
 use lib.Dec.{eqb}
 use lib.ListN.{length, getD}
 use Rattle.ops.specs.Kinds.{shape, need, indexOf, runNeed}
 use Rattle.ops.specs.Record.{countOf}
 use Rattle.ops.specs.Op.{Control, Plain, Op, kindOf, plainKind, needs, needsOf, plainNeeds}
 use Rattle.ops.specs.Op.Control.{function, call, ret, while, if, else, end}
 use Rattle.ops.specs.Op.Plain.{comment, store, move, swap, locate, offset, deref, refer, cell, lane, get, put, peek, poke, alloc, free}
 use Rattle.ops.specs.Op.Op.{control, set, load, plain}
 use Rattle.ops.specs.Patch.{Item, kindIn, countIn, needIn, patchOf}
 use Rattle.ops.specs.Ops.{rowAt, plainWith, opWith, opAt, plainCount, opCount, opsOf}
 use Rattle.ops.specs.Ops.Patch.{ops, refused}
 use Rattle.ops.proofs.ValuesAt.{length-values}
 use Rattle.ops.proofs.TextAt.{length-text}
 use Rattle.ops.proofs.Whole.{Tells, tells}
-use Rattle.ops.proofs.Items.{IsItem, Every, items-are, item-at}
-use Rattle.ops.proofs.Rows.{controlRule, plainRule, rule, Row, row-rule}
+use Rattle.file_laws.proofs.Items.{IsItem, Every, items-are, item-at}
+use Rattle.file_laws.proofs.Rows.{controlRule, plainRule, rule, Row, row-rule}
 
 -- ---- the file's ops
 

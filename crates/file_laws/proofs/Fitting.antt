@@ -7,28 +7,28 @@ use mathlib.Core.List.{List, [], _∷_, _++_, map}
 use lib.Dec.{eqb, ltb}
 use lib.ListN.{length, getD, take, drop, length-map}
 use borrow.Author.Tests.{leb-true, eqb-true, ltb-false}
 use Rattle.ops.specs.Bytes.{u16At, u32At, u64At, valuesAt, textAt}
 use Rattle.ops.specs.Kinds.{shape}
 use Rattle.ops.specs.Record.{lengthOk, countOf}
 use Rattle.ops.specs.Refusals.{numberOf}
 use Rattle.ops.specs.Patch.{Item, Loaded, stop, walk, patchOf, markOf}
 use Rattle.ops.specs.Ops.{rowAt, opWith, opAt, opsOf}
 use Rattle.ops.specs.Ops.Patch.{ops, refused}
 use Rattle.ops.specs.Op.{Op, Plain}
 use Rattle.ops.specs.Op.Plain.{comment, store, move, swap, locate, offset, deref, refer, cell, lane, get, put, peek, poke, alloc, free}
 use Rattle.ops.specs.Op.Op.{control, set, load, plain}
 use Rattle.ops.specs.Write.{encodeAll, Below, Fits, Each, markIn, marksIn, AllFit}
 use Rattle.ops.specs.declared.refusals.Refusal.the-variants.{FileTooLong}
-use Rattle.ops.proofs.Encoded.{known}
-use Rattle.ops.proofs.Items as items
-use Rattle.ops.proofs.Items.{IsItem, Every, items-are, few-items, few-marks}
-use Rattle.ops.proofs.Meaning.{means}
-use Rattle.ops.proofs.Rewritten.{bytes-back}
-use Rattle.ops.proofs.Rows.{rule, row-rule}
+use Rattle.file_laws.proofs.Encoded.{known}
+use Rattle.file_laws.proofs.Items as items
+use Rattle.file_laws.proofs.Items.{IsItem, Every, items-are, few-items, few-marks}
+use Rattle.file_laws.proofs.Meaning.{means}
+use Rattle.file_laws.proofs.Rewritten.{bytes-back}
+use Rattle.file_laws.proofs.Rows.{rule, row-rule}
 use Rattle.ops.proofs.TextAt.{length-text}
 use Rattle.ops.proofs.ValuesAt.{length-values}
 use Rattle.ops.proofs.Whole.{tells}
 use Rattle.ops.proofs.Clash.{clash}
 
 pub below-all : (s : List ℕ) → ((i : ℕ) → getD s i 0 < 256) → Below 256 s
 below-all [] h = tt

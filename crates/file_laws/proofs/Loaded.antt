@@ -7,10 +7,10 @@ use native.Mathlib.Omega.{arith}
 use borrow.Author.Tests.{eq-eqb, ne-eqb}
 use lib.ListN.{length, take, drop, length-map, length-append}
 use lib.Seq.{take-at}
 use Rattle.ops.specs.Storage.{fill}
 use Rattle.ops.specs.Patch.{Item, patchOf, readOf}
 use Rattle.ops.specs.declared.reader.Read.{Read}
-use Rattle.ops.proofs.Items.{few-items}
+use Rattle.file_laws.proofs.Items.{few-items}
 
 module _ (s : List ℕ) (r : Read) (e : r ≡ readOf (patchOf s)) where
   pub number-is : r .number ≡ patchOf s .number

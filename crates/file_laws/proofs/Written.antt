@@ -8,17 +8,17 @@ use borrow.Author.Tests.{le-ltb, leb-false}
 use lib.Dec.{ltb}
 use lib.ListN.{length, take, drop, length-append, length-drop}
 use lib.Seq.{drop-append-seam, drop-at, length-take-le}
 use Rattle.ops.specs.Bytes.{u16At, u32At}
 use Rattle.ops.specs.Kinds.{shape, kindAt, indexOf}
 use Rattle.ops.specs.Record.{recordAt, bodyAt, modeOf}
 use Rattle.ops.specs.declared.records.Record.the-variants.{Whole}
 use Rattle.ops.specs.Op.{Op, kindOf}
 use Rattle.ops.specs.Patch.{Item, item}
 use Rattle.ops.specs.Ops.{opAt, opCount}
 use Rattle.ops.specs.Write.{le16, le32, recordOf, placed, payloadOf, encode, encodeAll, Fits}
-use Rattle.ops.proofs.Rows.{rule}
-use Rattle.ops.proofs.Digits.{after, at16, at32}
-use Rattle.ops.proofs.Encoded.{known, Reads, payload-reads}
+use Rattle.file_laws.proofs.Rows.{rule}
+use Rattle.file_laws.proofs.Digits.{after, at16, at32}
+use Rattle.file_laws.proofs.Encoded.{known, Reads, payload-reads}
 
 -- the item of op o whose record begins at byte p
 abbrev pub itemOf : Op → ℕ → Item

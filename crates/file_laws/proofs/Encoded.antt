@@ -11,21 +11,21 @@ use Rattle.lanes.specs.declared.lane.CellOp.{CellOp}
 use Rattle.lanes.specs.declared.lane.CellOp.the-variants.{Index, BitwiseNand, BitwiseAnd, BitwiseOr, BitwiseXor, LeftShift, LogicalRightShift, ArithmeticRightShift, And, Or, Add, Sub, Mul, Div, Rem, FloatAdd, FloatSub, FloatMul, FloatDiv, FloatRem}
 use Rattle.lanes.specs.declared.lane.LaneOp.{LaneOp}
 use Rattle.lanes.specs.declared.lane.LaneOp.the-variants.{BitwiseNot, Not, Neg, Inc, Dec, IsNonNegative, ToInt, ToFloat, FloatNeg, FloatIsNonNegative}
 use Rattle.ops.specs.declared.op.Mode.{Mode}
 use Rattle.ops.specs.declared.op.Mode.the-variants.{Char, Int, Other}
 use Rattle.ops.specs.Bytes.{u16At, u32At, u64At}
 use Rattle.ops.specs.Kinds.{shape, kindAt, indexOf}
 use Rattle.ops.specs.Record.{lengthOk, countOf, modeOf}
 use Rattle.ops.specs.Op.{Control, Plain, Op, kindOf}
 use Rattle.ops.specs.Op.Control.{function, call, ret, while, if, else, end}
 use Rattle.ops.specs.Op.Plain.{comment, store, move, swap, locate, offset, deref, refer, cell, lane, get, put, peek, poke, alloc, free}
 use Rattle.ops.specs.Op.Sort.{ints, floats}
 use Rattle.ops.specs.Op.Op.{control, set, load, plain}
 use Rattle.ops.specs.Patch.{markOf}
 use Rattle.ops.specs.Ops.{rows, rowAt, modeIn, opWith, opCount}
 use Rattle.ops.specs.Write.{le16, le32, le64, modeNumber, valueBytes, payloadOf, PlainFits, Fits, markIn}
-use Rattle.ops.proofs.Rows.{rule}
-use Rattle.ops.proofs.Digits.{after-two, at16, at32, at64, length-le64, at-values, at-text}
+use Rattle.file_laws.proofs.Rows.{rule}
+use Rattle.file_laws.proofs.Digits.{after-two, at16, at32, at64, length-le64, at-values, at-text}
 
 -- ---- the row
 

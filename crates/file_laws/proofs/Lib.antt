@@ -1,0 +1,16 @@
+pub mod Payload
+pub mod Items
+pub mod Loaded
+pub mod Tested
+pub mod Rows
+pub mod Meaning
+pub mod Unique
+pub mod Cases
+pub mod Digits
+pub mod Encoded
+pub mod Written
+pub mod RoundTrip
+pub mod Crowded
+pub mod BytesBack
+pub mod Rewritten
+pub mod Fitting
