@@ -26,12 +26,12 @@ use Rattle.patch_check.specs.declared.verdict.Verdict.{Verdict}
 use Rattle.patch_check.proofs.File.{check-passes}
 use Rattle.patch_check.proofs.Safe.{Spared, safe-resumed}
 use Rattle.machine_step.specs.Held.{Held}
-use Rattle.machine_step.specs.View.{view}
-use Rattle.machine_step.specs.Decoded.{codeOf, givenOf}
-use Rattle.machine_step.specs.Fits.{Fits}
-use Rattle.machine_step.specs.Run.{Ran, runIn}
-use Rattle.machine_step.proofs.Decoded.{Bytes}
-use Rattle.machine_step.proofs.Runs.{run-seen}
+use Rattle.bridge.specs.View.{view}
+use Rattle.bridge.specs.Decoded.{codeOf, givenOf}
+use Rattle.bridge.specs.Fits.{Fits}
+use Rattle.bridge.specs.Run.{Ran, runIn}
+use Rattle.bridge.proofs.Decoded.{Bytes}
+use Rattle.bridge.proofs.Runs.{run-seen}
 use Rattle.machine.specs.Answer.{numberOf}
 use Rattle.machine.specs.Fresh.{freshOf}
 use Rattle.machine.specs.Formed.{hasRoom, isFormed}

@@ -8,13 +8,13 @@ use Rattle.machine_model.specs.Step.{Outcome, step}
 use Rattle.machine_model.specs.Step.Outcome.{finished, refused, next}
 use Rattle.machine_model.proofs.Kept.{step-formed}
 use Rattle.machine_step.specs.Held.{Held}
-use Rattle.machine_step.specs.View.{view, lay, laid}
-use Rattle.machine_step.specs.Decoded.{givenOf}
-use Rattle.machine_step.specs.Fits.{Fits}
-use Rattle.machine_step.specs.Run.{driveIn, runIn}
-use Rattle.machine_step.proofs.Over.{lay-room}
-use Rattle.machine_step.proofs.Decoded.{Bytes, limited}
-use Rattle.machine_step.proofs.Runs.{lay-fits}
+use Rattle.bridge.specs.View.{view, lay, laid}
+use Rattle.bridge.specs.Decoded.{givenOf}
+use Rattle.bridge.specs.Fits.{Fits}
+use Rattle.bridge.specs.Run.{driveIn, runIn}
+use Rattle.bridge.proofs.Over.{lay-room}
+use Rattle.bridge.proofs.Decoded.{Bytes, limited}
+use Rattle.bridge.proofs.Runs.{lay-fits}
 
 -- ---- a run
 

@@ -4,7 +4,7 @@ use mathlib.Core.Bool.{true}
 use mathlib.Core.List.{List}
 use Prim.Native.Nat.{ℕ}
 use Rattle.machine_step.specs.Held.{Held}
-use Rattle.machine_step.specs.View.{view}
+use Rattle.bridge.specs.View.{view}
 use Rattle.machine.specs.Formed.{hasRoom}
 use Rattle.machine.specs.Calls.{lent, stepIn, runOver, freshOver}
 use Rattle.machine.specs.declared.machine.Machine.{Machine}

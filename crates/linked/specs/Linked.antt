@@ -6,7 +6,7 @@ use lib.Dec.{ltb}
 use lib.ListN.{length}
 use Rattle.lanes.specs.Lane.{zipTo, beside}
 use Rattle.ops.specs.declared.reader.Read.{Read}
-use Rattle.machine_step.specs.Run.{Ran}
+use Rattle.bridge.specs.Run.{Ran}
 use Rattle.patch_check.specs.Verdict as verdict
 use Rattle.patch_check.specs.declared.verdict.Verdict.{Verdict}
 use Rattle.joining.specs.Joined as joined

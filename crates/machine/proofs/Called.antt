@@ -8,11 +8,11 @@ use borrow.Author.Tests.{eq-eqb, ne-eqb}
 use Rattle.ops.specs.Patch.{patchOf, readOf}
 use Rattle.ops.specs.declared.reader.Read.{Read}
 use Rattle.machine_step.specs.Held.{Held, Code}
-use Rattle.machine_step.specs.Decoded.{codeOf}
-use Rattle.machine_step.specs.Fits.{Fits}
-use Rattle.machine_step.specs.Run.{runOf}
-use Rattle.machine_step.proofs.Decoded.{Bytes}
-use Rattle.machine_step.proofs.Runs.{run-laid}
+use Rattle.bridge.specs.Decoded.{codeOf}
+use Rattle.bridge.specs.Fits.{Fits}
+use Rattle.bridge.specs.Run.{runOf}
+use Rattle.bridge.proofs.Decoded.{Bytes}
+use Rattle.bridge.proofs.Runs.{run-laid}
 use Rattle.machine.specs.Fresh.{freshOf, zeroed}
 use Rattle.machine.specs.Formed.{hasRoom, isFormed}
 use Rattle.machine.specs.Going.{Going, onceOf}

@@ -14,11 +14,11 @@ use Rattle.machine_model.specs.Step.Outcome.{finished, refused, next}
 use Rattle.machine_model.specs.Run.{run}
 use Rattle.machine_model.proofs.Scans.{clash}
 use Rattle.machine_step.specs.Held.{Held}
-use Rattle.machine_step.specs.View.{view, laid}
-use Rattle.machine_step.specs.Decoded.{codeOf, givenOf}
-use Rattle.machine_step.specs.Run.{Ran, seen}
-use Rattle.machine_step.proofs.Decoded.{Bytes}
-use Rattle.machine_step.proofs.Runs.{run-seen}
+use Rattle.bridge.specs.View.{view, laid}
+use Rattle.bridge.specs.Decoded.{codeOf, givenOf}
+use Rattle.bridge.specs.Run.{Ran, seen}
+use Rattle.bridge.proofs.Decoded.{Bytes}
+use Rattle.bridge.proofs.Runs.{run-seen}
 use Rattle.machine.specs.Answer.{numberOf, placeOf}
 use Rattle.machine.specs.Fresh.{freshOf}
 use Rattle.machine.specs.Formed.{hasRoom, isFormed}

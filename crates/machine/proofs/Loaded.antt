@@ -8,7 +8,7 @@ use Rattle.ops.specs.Patch.{kindIn, countIn, needIn, placeIn, patchOf, readOf}
 use Rattle.ops.specs.declared.reader.Read.{Read}
 use Rattle.file_laws.proofs.Loaded.{part-is}
 use Rattle.machine_step.specs.Held.{code}
-use Rattle.machine_step.specs.Decoded.{codeOf}
+use Rattle.bridge.specs.Decoded.{codeOf}
 
 module _ (s : List ℕ) (r : Read) (e : r ≡ readOf (patchOf s)) (z : r .number ≡ 0) where
   pub kinds-read : (ks k₀ : List ℕ) → ks ≡ fill (map kindIn (patchOf s .items)) k₀ → take (r .place) ks ≡ codeOf s .kinds

@@ -9,11 +9,11 @@ use Rattle.ops.specs.Storage.{fill}
 use Rattle.testing_device.specs.Device.{fillRing}
 use Rattle.machine_model.specs.State.{fresh}
 use Rattle.machine_step.specs.Held.{Held}
-use Rattle.machine_step.specs.View.{view, lay}
-use Rattle.machine_step.specs.Fits.{Fits}
-use Rattle.machine_step.proofs.Decoded.{Bytes}
-use Rattle.machine_step.proofs.Over.{view-lay}
-use Rattle.machine_step.proofs.Runs as runs
+use Rattle.bridge.specs.View.{view, lay}
+use Rattle.bridge.specs.Fits.{Fits}
+use Rattle.bridge.proofs.Decoded.{Bytes}
+use Rattle.bridge.proofs.Over.{view-lay}
+use Rattle.bridge.proofs.Runs as runs
 use Rattle.machine.specs.Fresh.{freshOf, zeroed}
 use Rattle.machine.specs.Formed.{hasRoom}
 use Rattle.machine.specs.Calls.{lent, freshOn}

@@ -22,16 +22,16 @@ use Rattle.machine_ops.specs.Place.{pick}
 use Rattle.machine_ops.specs.declared.place.Place.{Place}
 use Rattle.machine_step.specs.Held.{Held, After, Code}
 use Rattle.machine_step.specs.Step.{stepOf}
-use Rattle.machine_step.specs.View.{view, laid}
-use Rattle.machine_step.specs.Decoded.{codeOf, givenOf}
+use Rattle.bridge.specs.View.{view, laid}
+use Rattle.bridge.specs.Decoded.{codeOf, givenOf}
 use Rattle.machine_step.specs.Fine.{Fine}
-use Rattle.machine_step.specs.Fits.{Fits}
-use Rattle.machine_step.specs.Run.{ran, runOf}
-use Rattle.machine_step.proofs.Decoded.{Bytes, rows, many-kinds, fine}
-use Rattle.machine_step.proofs.Steps.{step-is}
-use Rattle.machine_step.proofs.Real.{Real, step-real, step-over}
-use Rattle.machine_step.proofs.Real.Real.{goes, stops}
-use Rattle.machine_step.proofs.Runs.{step-fits}
+use Rattle.bridge.specs.Fits.{Fits}
+use Rattle.bridge.specs.Run.{ran, runOf}
+use Rattle.bridge.proofs.Decoded.{Bytes, rows, many-kinds, fine}
+use Rattle.bridge.proofs.Steps.{step-is}
+use Rattle.bridge.proofs.Real.{Real, step-real, step-over}
+use Rattle.bridge.proofs.Real.Real.{goes, stops}
+use Rattle.bridge.proofs.Runs.{step-fits}
 use Rattle.machine.specs.Going.{Going, overOf, onceOf}
 use Rattle.machine.specs.Calls.{still, showing, stepOver}
 

@@ -20,10 +20,10 @@ use Rattle.machine_model.proofs.Each.{each-to}
 use Rattle.searches.specs.Found.{rowFunction}
 use Rattle.machine_ops.specs.declared.place.Place.{Place}
 use Rattle.machine_step.specs.Held.{Held}
-use Rattle.machine_step.specs.Decoded.{codeOf, givenOf}
-use Rattle.machine_step.specs.Fits.{Fits}
-use Rattle.machine_step.proofs.Control.{Rows}
-use Rattle.machine_step.proofs.Decoded.{rows}
+use Rattle.bridge.specs.Decoded.{codeOf, givenOf}
+use Rattle.bridge.specs.Fits.{Fits}
+use Rattle.bridge.proofs.Control.{Rows}
+use Rattle.bridge.proofs.Decoded.{rows}
 use Rattle.machine.specs.Formed.{hasRoom, inLimits, inPlace, allOf, callsBelow, refsWithin, namesFrom, tableNames, isFormed}
 
 parts : (a b : Bool) → (a && b) ≡ true → (a ≡ true) × (b ≡ true)

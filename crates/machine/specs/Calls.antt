@@ -8,9 +8,9 @@ use lib.Dec.{eqb}
 use Rattle.ops.specs.Patch.{patchOf}
 use Rattle.machine_model.specs.Step.{step}
 use Rattle.machine_step.specs.Held.{Held, held, After}
-use Rattle.machine_step.specs.View.{view, laid}
-use Rattle.machine_step.specs.Decoded.{codeOf, givenOf}
-use Rattle.machine_step.specs.Run.{Ran, runIn}
+use Rattle.bridge.specs.View.{view, laid}
+use Rattle.bridge.specs.Decoded.{codeOf, givenOf}
+use Rattle.bridge.specs.Run.{Ran, runIn}
 use Rattle.machine.specs.Answer.{numberOf, placeOf}
 use Rattle.machine.specs.Formed.{hasRoom, isFormed}
 use Rattle.machine.specs.Fresh.{freshOf, zeroed}

@@ -7,8 +7,8 @@ use Rattle.ops.specs.Patch.{patchOf}
 use Rattle.machine_ops.specs.Place.{pick}
 use Rattle.machine_step.specs.Held.{Held, Code}
 use Rattle.machine_step.specs.Step.{stepOf}
-use Rattle.machine_step.specs.Decoded.{codeOf}
-use Rattle.machine_step.specs.Fits.{Fits}
+use Rattle.bridge.specs.Decoded.{codeOf}
+use Rattle.bridge.specs.Fits.{Fits}
 use lib.Dec.{leb}
 use mathlib.Core.Bool.{Bool, _||_}
 use Rattle.machine_ops.specs.declared.place.Place.{Place}

@@ -3,7 +3,7 @@
 ghost use mathlib.Core.Path.{_≡_};
 ghost use Prim.Native.Nat.{ℕ};
 ghost use Rattle.machine_step.specs.Held.{code};
-ghost use Rattle.machine_step.specs.Run.{runOf};
+ghost use Rattle.bridge.specs.Run.{runOf};
 ghost use Rattle.machine.specs.Going.{Going, overOf, onceOf};
 ghost use Rattle.machine.specs.Calls.{lent, stepIn, steppedTo, runOver, ranTo, freshOver};
 use crate::formed::has_room;

@@ -14,12 +14,12 @@ use Rattle.testing_device.specs.Device.{ring, fillRing}
 use Rattle.machine_model.specs.Run.{run}
 use Rattle.machine_ops.specs.Place.{pick}
 use Rattle.machine_ops.specs.Tape.{setOf, tapeOf}
 use Rattle.machine_step.specs.Held.{Held, held}
 use Rattle.machine_step.specs.Family.{familyOf}
 use Rattle.machine_step.specs.Step.{opOf, stepOf}
-use Rattle.machine_step.specs.View.{view, lay}
-use Rattle.machine_step.specs.Decoded.{codeOf, givenOf}
-use Rattle.machine_step.specs.Run.{runOf}
+use Rattle.bridge.specs.View.{view, lay}
+use Rattle.bridge.specs.Decoded.{codeOf, givenOf}
+use Rattle.bridge.specs.Run.{runOf}
 
 -- set [1, 2], set [3], over a register that holds 9 9 9
 two : List ℕ

@@ -27,11 +27,11 @@ use Rattle.machine_model.proofs.Stacks.{pushed, back-popped}
 use Rattle.machine_ops.specs.Place as m
 use Rattle.searches.specs.Found.{rowMark, rowFunction, placeOr, endOf, elseOf, openOf, markOf, entry, enteredIn, countedIn}
 use Rattle.machine_ops.specs.Control.{jumpOf, functionOf, callOf, retOf, whileOf, ifOf, elsesOf, endsOf, inTable}
 use Rattle.machine_step.specs.Held.{Held, held, steering}
-use Rattle.machine_step.specs.View.{view, laid}
-use Rattle.machine_step.specs.Fits.{Counted}
-use Rattle.machine_step.proofs.Lists.{Laid, laid-same, laid-push, laid-fill}
-use Rattle.machine_step.proofs.Over.{over-same, over-num, over-calls, went, meets}
+use Rattle.bridge.specs.View.{view, laid}
+use Rattle.bridge.specs.Fits.{Counted}
+use Rattle.bridge.proofs.Lists.{Laid, laid-same, laid-push, laid-fill}
+use Rattle.bridge.proofs.Over.{over-same, over-num, over-calls, went, meets}
 
 -- the rows ks are to the searches what the ops are
 pub record Rows (os : List Op) (ks : List ℕ) : Type 0 where

@@ -10,9 +10,9 @@ use Rattle.machine_model.specs.Step.{Outcome, step}
 use Rattle.machine_model.specs.Step.Outcome.{finished, refused, next}
 use Rattle.machine_model.specs.Run.{Answer}
 use Rattle.machine_ops.specs.Place.{pick}
 use Rattle.machine_step.specs.Held.{Held, After, Code}
 use Rattle.machine_step.specs.Step.{stepOf}
-use Rattle.machine_step.specs.View.{view, lay}
+use Rattle.bridge.specs.View.{view, lay}
 
 pub record Ran : Type 0 where
   pub number : ℕ

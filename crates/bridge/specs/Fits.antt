@@ -5,9 +5,9 @@ use mathlib.Core.List.{List}
 use Prim.Native.Nat.{ℕ, _≤_, _<_}
 use lib.ListN.{length}
 use Rattle.machine_model.specs.Formed.{Formed}
 use Rattle.machine_step.specs.Held.{Held}
-use Rattle.machine_step.specs.View.{view}
-use Rattle.machine_step.specs.Decoded.{givenOf}
+use Rattle.bridge.specs.View.{view}
+use Rattle.bridge.specs.Decoded.{givenOf}
 
 -- "1,024 lanes; calls, refs and channel 256 each", and the counts within what is lent
 pub record Counted (c : Held) : Type 0 where

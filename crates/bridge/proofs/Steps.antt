@@ -28,18 +28,18 @@ use Rattle.machine_ops.specs.Place as m
 use Rattle.machine_ops.specs.Control.{controlOf}
 use Rattle.machine_ops.specs.Tape.{tapeOf}
 use Rattle.machine_ops.specs.Device.{deviceOf}
 use Rattle.machine_step.specs.Held.{Held}
 use Rattle.machine_step.specs.Family.{familyOf}
 use Rattle.machine_step.specs.Step.{opOf, stepOf}
-use Rattle.machine_step.specs.View.{view, laid}
-use Rattle.machine_step.specs.Decoded.{codeOf, givenOf}
-use Rattle.machine_step.specs.Fits.{Counted, Fits}
-use Rattle.machine_step.proofs.Families.{cell-row, lane-row}
-use Rattle.machine_step.proofs.Control.{Rows, function-is, call-is, ret-is, while-is, if-is, else-is, end-is}
-use Rattle.machine_step.proofs.Tape.{next-is, set-is, load-is, store-is, move-is, where-is, deref-is, refer-is, alloc-is}
-use Rattle.machine_step.proofs.Lanes.{cell-is, swap-is, alone-is, offset-is}
-use Rattle.machine_step.proofs.Device.{get-is, put-is, peek-is, poke-is}
-use Rattle.machine_step.proofs.Decoded.{itemOf, row-of, rows, op-is-item, kind-is, count-is, place-is, need-is, is-item, few, few-entered, bytes-are}
+use Rattle.bridge.specs.View.{view, laid}
+use Rattle.bridge.specs.Decoded.{codeOf, givenOf}
+use Rattle.bridge.specs.Fits.{Counted, Fits}
+use Rattle.bridge.proofs.Families.{cell-row, lane-row}
+use Rattle.bridge.proofs.Control.{Rows, function-is, call-is, ret-is, while-is, if-is, else-is, end-is}
+use Rattle.bridge.proofs.Tape.{next-is, set-is, load-is, store-is, move-is, where-is, deref-is, refer-is, alloc-is}
+use Rattle.bridge.proofs.Lanes.{cell-is, swap-is, alone-is, offset-is}
+use Rattle.bridge.proofs.Device.{get-is, put-is, peek-is, poke-is}
+use Rattle.bridge.proofs.Decoded.{itemOf, row-of, rows, op-is-item, kind-is, count-is, place-is, need-is, is-item, few, few-entered, bytes-are}
 
 -- an op of any row, with n what its payload counts
 module _ (g : Given) (ks bs : List ℕ) (n a : ℕ) (c : Held) (h : Counted c) (r : Rows (g .ops) ks) (f : Formed g (view c))

@@ -25,12 +25,12 @@ use Rattle.machine_model.specs.Step.{act, bar, gotten, write, peekAt}
 use Rattle.machine_model.specs.Step.Outcome.{next}
 use Rattle.machine_ops.specs.Place as m
 use Rattle.machine_ops.specs.Device as d
 use Rattle.machine_step.specs.Held.{Held, held, telling}
-use Rattle.machine_step.specs.View.{view, laid}
-use Rattle.machine_step.specs.Fits.{Counted}
-use Rattle.machine_step.proofs.Lists.{laid-set, laid-fill}
-use Rattle.machine_step.proofs.Over.{over-same, over-num, went, meets}
-use Rattle.machine_step.proofs.Tape.{lane-went}
+use Rattle.bridge.specs.View.{view, laid}
+use Rattle.bridge.specs.Fits.{Counted}
+use Rattle.bridge.proofs.Lists.{laid-set, laid-fill}
+use Rattle.bridge.proofs.Over.{over-same, over-num, went, meets}
+use Rattle.bridge.proofs.Tape.{lane-went}
 
 module _ (g : Given) (c : Held) (h : Counted c) where
   got-is : 0 < c .place .lanes → (x : Got) → telling c (d.inLanes (c .channel) (c .output) (d.gotten (c .place) (c .register) x)) ≡ laid c (gotten (view c) x)

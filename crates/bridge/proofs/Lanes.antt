@@ -22,11 +22,11 @@ use Rattle.machine_model.proofs.Kept.{length-zip, length-map}
 use Rattle.machine_ops.specs.Place as m
 use Rattle.machine_ops.specs.Tape.{copied}
 use Rattle.machine_ops.specs.Lane.{cellOf, swapOf, aloneOf, offsetOf}
 use Rattle.machine_step.specs.Held.{Held, held, laning, swapping}
-use Rattle.machine_step.specs.View.{view, laid}
-use Rattle.machine_step.specs.Fits.{Counted}
-use Rattle.machine_step.proofs.Lists.{Laid, laid-by, zip-take, zip-drop, map-take, map-drop, beside-is, copied-is}
-use Rattle.machine_step.proofs.Over.{over-reg, over-num, went, meets}
+use Rattle.bridge.specs.View.{view, laid}
+use Rattle.bridge.specs.Fits.{Counted}
+use Rattle.bridge.proofs.Lists.{Laid, laid-by, zip-take, zip-drop, map-take, map-drop, beside-is, copied-is}
+use Rattle.bridge.proofs.Over.{over-reg, over-num, went, meets}
 
 -- no lanes over the cells from p on
 pub none-stored : (p : ℕ) (t : List ℕ) → (take p t ++ []) ++ drop (p + 0) t ≡ t

@@ -12,10 +12,10 @@ use Rattle.testing_device.proofs.Rings.{length-ring, ring-same, ring-fill, leng
 use Rattle.machine_model.specs.State.{State}
 use Rattle.machine_model.specs.Step.Outcome.{next}
 use Rattle.machine_ops.specs.declared.place.Place.{Place}
 use Rattle.machine_step.specs.Held.{Held, held, After}
-use Rattle.machine_step.specs.View.{view, lay, laid, headOf}
-use Rattle.machine_step.specs.Fits.{Counted}
-use Rattle.machine_step.proofs.Lists.{Laid, laid-same}
+use Rattle.bridge.specs.View.{view, lay, laid, headOf}
+use Rattle.bridge.specs.Fits.{Counted}
+use Rattle.bridge.proofs.Lists.{Laid, laid-same}
 
 -- d is c with counted entries changed, and no others
 pub record Over (c d : Held) : Type 0 where

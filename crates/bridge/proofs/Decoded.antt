@@ -25,10 +25,10 @@ use Rattle.testing_device.proofs.Words.{byCase}
 use Rattle.machine_model.specs.Scan.{opAt, marks, functions}
 use Rattle.machine_model.specs.Limited.{count, Limited}
 use Rattle.searches.specs.Found.{rowMark, rowFunction}
 use Rattle.machine_step.specs.Fine.{Fine}
-use Rattle.machine_step.specs.Decoded.{codeOf, givenOf}
-use Rattle.machine_step.proofs.Families.{Told, op-row}
-use Rattle.machine_step.proofs.Control.{Rows}
+use Rattle.bridge.specs.Decoded.{codeOf, givenOf}
+use Rattle.bridge.proofs.Families.{Told, op-row}
+use Rattle.bridge.proofs.Control.{Rows}
 
 -- ---- each item and its op
 

@@ -15,17 +15,17 @@ use Rattle.machine_model.specs.Formed.{Formed}
 use Rattle.machine_model.proofs.Kept.{step-formed, fresh-formed}
 use Rattle.machine_model.proofs.Outcomes.{or-right}
 use Rattle.machine_ops.specs.Place.{pick}
 use Rattle.machine_step.specs.Held.{Held}
 use Rattle.machine_step.specs.Step.{stepOf}
-use Rattle.machine_step.specs.View.{view, lay, laid}
-use Rattle.machine_step.specs.Decoded.{codeOf, givenOf}
-use Rattle.machine_step.specs.Fits.{Fits}
-use Rattle.machine_step.specs.Run.{ran, driveIn, runIn, seen, isOver, runOf}
-use Rattle.machine_step.proofs.Over.{view-lay, lay-counted, lay-room}
-use Rattle.machine_step.proofs.Decoded.{Bytes, rows, limited}
-use Rattle.machine_step.proofs.Real.{Real, step-real, step-over}
-use Rattle.machine_step.proofs.Real.Real.{goes, stops}
-use Rattle.machine_step.proofs.Steps.{step-is}
+use Rattle.bridge.specs.View.{view, lay, laid}
+use Rattle.bridge.specs.Decoded.{codeOf, givenOf}
+use Rattle.bridge.specs.Fits.{Fits}
+use Rattle.bridge.specs.Run.{ran, driveIn, runIn, seen, isOver, runOf}
+use Rattle.bridge.proofs.Over.{view-lay, lay-counted, lay-room}
+use Rattle.bridge.proofs.Decoded.{Bytes, rows, limited}
+use Rattle.bridge.proofs.Real.{Real, step-real, step-over}
+use Rattle.bridge.proofs.Real.Real.{goes, stops}
+use Rattle.bridge.proofs.Steps.{step-is}
 
 or-left : (a b : Bool) → (a || b) ≡ false → a ≡ false
 or-left true b e = e

@@ -22,12 +22,12 @@ use Rattle.machine_model.specs.Step.Outcome.{next}
 use Rattle.machine_model.proofs.Stacks.{pushed, refer-popped}
 use Rattle.machine_ops.specs.Place as m
 use Rattle.machine_ops.specs.Tape.{copied, reach, setOf, loadOf, storeOf, moveOf, whereOf, derefOf, referOf, stocked, allocOf, inRegister, inTape, inRefs}
 use Rattle.machine_step.specs.Held.{Held, held, taping}
-use Rattle.machine_step.specs.View.{view, laid}
-use Rattle.machine_step.specs.Fits.{Counted}
-use Rattle.machine_step.proofs.Lists.{laid-same, laid-push, laid-set, laid-fill, length-part, length-values, beside-is, copied-is}
-use Rattle.machine_step.proofs.Over.{over-reg, over-num, over-refs, went, meets}
-use Rattle.machine_step.proofs.Lanes.{none-stored}
+use Rattle.bridge.specs.View.{view, laid}
+use Rattle.bridge.specs.Fits.{Counted}
+use Rattle.bridge.proofs.Lists.{laid-same, laid-push, laid-set, laid-fill, length-part, length-values, beside-is, copied-is}
+use Rattle.bridge.proofs.Over.{over-reg, over-num, over-refs, went, meets}
+use Rattle.bridge.proofs.Lanes.{none-stored}
 
 reach-is : (l e : ℕ) → reach l e ≡ cover e l
 unfolding reach m.pick

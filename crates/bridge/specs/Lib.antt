@@ -1,0 +1,4 @@
+pub mod Decoded
+pub mod View
+pub mod Fits
+pub mod Run
