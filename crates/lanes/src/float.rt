@@ -7,7 +7,7 @@ ghost use Rattle.lanes.specs.Float.{loadedOf, storedOf, floatAdd, floatS
 use crate::int::HALF;
 use crate::int::bit_or;
 use crate::int::magnitude;
-use crate::int::pattern;
+use crate::int::with_sign;
 
 // The pattern that every NaN is stored as.
 pub const NAN: u64 = 0x7FF8_0000_0000_0000;
@@ -47,19 +47,22 @@ pub fn as_int(x: f64) -> u64
     if x != x { NAN } else { f64::to_bits(x) }
 }
 
-// Toward zero, and to the nearest end of the range where it is out of it.
+// Toward zero, and to the nearest end of the range where it is out of it: that of the magnitude, and the sign is chosen after it.
 pub fn to_int(a: u64) -> u64
     ensures { λ r. ⌜ r ≡ toInt a ⌝ }
 {
-    let x = as_float(a);
-    if x >= -9223372036854775808.0 {
-        if x < 9223372036854775808.0 {
-            pattern(std::num::truncating_f64_to_i64(x))
-        } else {
-            0x7FFF_FFFF_FFFF_FFFF
-        }
+    if nan_bits(a) {
+        return 0;
+    }
+    let negative = a >= HALF;
+    let x = f64::from_bits(a % HALF);
+    if x < 9223372036854775808.0 {
+        return with_sign(negative, std::num::truncating_f64_to_u64(x));
+    }
+    if negative {
+        HALF
     } else {
-        if x < -9223372036854775808.0 { HALF } else { 0 }
+        0x7FFF_FFFF_FFFF_FFFF
     }
 }
 

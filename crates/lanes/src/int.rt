@@ -7,17 +7,6 @@ ghost use Rattle.lanes.specs.Int.{signed, wrap, signedBy, intAdd, intSub
 // The pattern of the least integer, and how many patterns stand for no negative one.
 pub const HALF: u64 = 0x8000_0000_0000_0000;
 
-// The pattern of an integer.
-pub fn pattern(n: i64) -> u64
-    ensures { λ r. ⌜ r ≡ wrap n ⌝ }
-{
-    if n >= 0 {
-        n as u64
-    } else {
-        0xFFFF_FFFF_FFFF_FFFF - ((-1 - n) as u64)
-    }
-}
-
 // How far from 0 the integer of a pattern is.
 pub fn magnitude(a: u64) -> u64
     ensures { λ r. ⌜ r ≡ natAbs (signed a) ⌝ }
@@ -30,7 +19,7 @@ pub fn magnitude(a: u64) -> u64
 }
 
 // The pattern of m, or of -m.
-fn with_sign(negative: bool, m: u64) -> u64
+pub fn with_sign(negative: bool, m: u64) -> u64
     ensures { λ r. ⌜ r ≡ wrap (signedBy negative m) ⌝ }
 {
     if negative {
