@@ -57,12 +57,9 @@ pub extern "C" fn feltcairn_run_fresh(
     let h = r.machine.place;
     let number = answers::machine::number_of(a);
     let place = answers::machine::place_of(a, h.position);
-    let told = [
-        number as u64,
-        place as u64,
-        r.steps as u64,
-        h.written as u64,
-    ];
+    let steps = r.steps;
+    let written = h.written;
+    let told = [number as u64, place as u64, steps as u64, written as u64];
     tell(answer, &told);
     number
 }
