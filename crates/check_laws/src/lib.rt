@@ -1,1 +1,1 @@
-// What the check's answer says of a patch: the rules are kept exactly where it passes, and a patch that passes is never refused with 20 or 21 (proofs/), with no code.
+// What the check says of a patch: it passes exactly those that keep the rules, and what passes is never refused with 20 or 21. No code.
