@@ -2,7 +2,7 @@
 //! every byte and every entry with the expected answer; what stands beyond a lent slice has to keep its value too.
 use std::io::Read;
 
-/// As in crates/flattening/src/answer.rt.
+/// As in crates/flattening/src/body.rt.
 #[repr(C)]
 #[derive(Clone, Copy, PartialEq, Debug)]
 struct Body {

@@ -4,11 +4,11 @@
 // A case is a head of 16 bytes, then its name, its patch and its input values. The head: what is done (0 the check and a run, 1 joining, 2
 // flattening), the name's length, and by two bytes each the patch's length, the number of input values, of cells, of outputs or of bytes and bodies
 // that there is room for, and of lanes that the register has room for; the budget by four.
-use flattening::answer::Flattened;
-use joining::join::Joined;
+use answers::flatten::Flattened;
+use answers::join::Joined;
+use answers::machine::number_of;
+use answers::machine::place_of;
 use machine::machine::Machine;
-use machine::machine::number_of;
-use machine::machine::place_of;
 use ops::bytes::u16_at;
 use ops::bytes::u32_at;
 use ops::bytes::u64_at;
@@ -75,8 +75,8 @@ fn show_out(output: &[u64; 64], n: usize) {
 fn show_check(file: &[u8]) {
     let v = patch_check::check::check(file);
     io::write_all(1, b" check");
-    number(patch_check::verdict::number_of(v));
-    number(patch_check::verdict::place_of(v));
+    number(answers::check::number_of(v));
+    number(answers::check::place_of(v));
 }
 
 // Reads the input values, and runs the patch with the storage that is lent.
@@ -196,8 +196,8 @@ fn show_flatten(head: &[u8; 16], file: &[u8]) {
     );
     show_answer(
         b" flatten",
-        flattening::answer::number_of(r),
-        flattening::answer::place_of(r),
+        answers::flatten::number_of(r),
+        answers::flatten::place_of(r),
     );
     if let Flattened::Written {
         ops: _,

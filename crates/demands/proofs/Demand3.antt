@@ -18,13 +18,13 @@ use Rattle.machine_model.specs.Step.{step}
 use Rattle.machine_model.specs.Run.{Answer}
 use Rattle.machine_model.proofs.Scans.{clash}
 use Rattle.patch_check.specs.Rules.{KeepsRules}
-use Rattle.patch_check.specs.Reached.{Reached}
-use Rattle.patch_check.specs.Reached.Reached.{at-first, run-on}
+use Rattle.check_laws.specs.Reached.{Reached}
+use Rattle.check_laws.specs.Reached.Reached.{at-first, run-on}
 use Rattle.patch_check.specs.File.{checkOf, KeepsFile}
-use Rattle.patch_check.specs.Verdict as checked
-use Rattle.patch_check.specs.declared.verdict.Verdict.{Verdict}
-use Rattle.patch_check.proofs.File.{check-passes}
-use Rattle.patch_check.proofs.Safe.{Spared, safe-resumed}
+use Rattle.answers.specs.Check as checked
+use Rattle.answers.specs.declared.check.Verdict.{Verdict}
+use Rattle.check_laws.proofs.File.{check-passes}
+use Rattle.check_laws.proofs.Safe.{Spared, safe-resumed}
 use Rattle.machine_step.specs.Held.{Held}
 use Rattle.bridge.specs.View.{view}
 use Rattle.bridge.specs.Decoded.{codeOf, givenOf}
@@ -32,7 +32,7 @@ use Rattle.bridge.specs.Fits.{Fits}
 use Rattle.bridge.specs.Run.{Ran, runIn}
 use Rattle.bridge.proofs.Decoded.{Bytes}
 use Rattle.bridge.proofs.Runs.{run-seen}
-use Rattle.machine.specs.Answer.{numberOf}
+use Rattle.answers.specs.Machine.{numberOf}
 use Rattle.machine.specs.Fresh.{freshOf}
 use Rattle.machine.specs.Formed.{hasRoom, isFormed}
 use Rattle.machine.specs.Calls.{Shown, lent, stepIn, steppedTo, runOver, ranTo, freshOn, freshOver}

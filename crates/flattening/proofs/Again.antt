@@ -17,7 +17,7 @@ use Rattle.file_laws.proofs.Fitting.{each-append, file-fit}
 use Rattle.file_laws.proofs.RoundTrip.{ops-back}
 use Rattle.machine_model.proofs.Scans.{clash}
 use Rattle.flattening.specs.Flatten.{notes, Numbered, number, body, bodies, gathered, others, laid, flatten}
-use Rattle.flattening.specs.declared.answer.Body.{Body}
+use Rattle.flattening.specs.declared.body.Body.{Body}
 use Rattle.flattening.specs.Flatten.Numbered.{stray, numbered}
 use Rattle.flattening.specs.Flatten.Flat.{flat}
 use Rattle.flattening.specs.Flattened.{Outcome, opsIn, flattenOf}

@@ -15,7 +15,7 @@ use Rattle.machine_model.proofs.Each.{each-to}
 use Rattle.machine_model.proofs.Scans.{clash}
 use Rattle.machine_model.proofs.Table.{each-enter, rising-enter}
 use Rattle.flattening.specs.Flatten.{Note, note, notes, Numbered, named, has, fresh, number, body, bodies, gathered, others, laid, flatten}
-use Rattle.flattening.specs.declared.answer.Body.{Body}
+use Rattle.flattening.specs.declared.body.Body.{Body}
 use Rattle.flattening.specs.Flatten.Note.{enters, opens, closes, stays}
 use Rattle.flattening.specs.Flatten.Numbered.{stray, numbered}
 use Rattle.flattening.specs.Flatten.Flat.{flat}

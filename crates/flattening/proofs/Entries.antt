@@ -23,11 +23,12 @@ use Rattle.machine_model.proofs.Scans.{clash}
 use Rattle.flattening.specs.Flatten.{notes, Numbered, number, bodies, others, laid, flatten, Flat}
 use Rattle.flattening.specs.Flatten.Numbered.{stray, numbered}
 use Rattle.flattening.specs.Flatten.Flat.{loose, flat}
-use Rattle.flattening.specs.Flattened.{Outcome, outcome, bodiesOf, opsIn, numberIn, firstIn, countIn, written, untouched, tooShort, ofFlat, ofPatch, flattenOf}
+use Rattle.answers.specs.Flatten.{bodiesOf}
+use Rattle.flattening.specs.Flattened.{Outcome, outcome, opsIn, numberIn, firstIn, countIn, written, untouched, tooShort, ofFlat, ofPatch, flattenOf}
 use Rattle.flattening.specs.Entries.{entry, beside, Listing, listing, inList, flattenTo, roomOf, entryOf, entriesOf, entryAt, entriesIn, over}
-use Rattle.flattening.specs.declared.answer.Body.{Body}
-use Rattle.flattening.specs.declared.answer.Flattened.{Flattened}
-use Rattle.flattening.specs.declared.answer.Flattened.the-variants.{BadFile, NoOpenEnd, NoRoom, Written}
+use Rattle.flattening.specs.declared.body.Body.{Body}
+use Rattle.answers.specs.declared.flatten.Flattened.{Flattened}
+use Rattle.answers.specs.declared.flatten.Flattened.the-variants.{BadFile, NoOpenEnd, NoRoom, Written}
 use Rattle.flattening.specs.declared.flatten.Columns.{Columns}
 use Rattle.flattening.proofs.FewBodies.{few-bodies, length-bodies}
 use Rattle.flattening.proofs.Copying.{held-is}

@@ -29,7 +29,7 @@ use Rattle.flattening.specs.Scope.{rowNote, rowNotes, rowMarks, told}
 use Rattle.flattening.specs.declared.numbering.Numbering.{Numbering}
 use Rattle.flattening.specs.declared.numbering.Numbering.the-variants.{Done}
 use Rattle.flattening.specs.Flattened.{outcome, held, opsIn, numberIn, firstIn, countIn, tooShort, ofFlat, ofPatch, flattenOf}
-use Rattle.flattening.specs.declared.answer.Flattened.the-variants.{BadFile, NoOpenEnd, NoRoom, Written}
+use Rattle.answers.specs.declared.flatten.Flattened.the-variants.{BadFile, NoOpenEnd, NoRoom, Written}
 use Rattle.flattening.specs.declared.numbering.Numbering.the-variants as numbering
 use Rattle.flattening.proofs.Flattened.{same-ops, same-bytes}
 use Rattle.flattening.proofs.FewBodies.{few-bodies, length-bodies}

@@ -12,7 +12,7 @@ use Rattle.ops.specs.Write.{encode, encodeAll, markIn, marksIn}
 use Rattle.machine_model.specs.Step.{enter}
 use Rattle.machine_model.specs.Formed.{Each, Rising}
 use Rattle.flattening.specs.Flatten.{Note, notes, Numbered, named, has, fresh, number, body, gathered, others, laid, flatten}
-use Rattle.flattening.specs.declared.answer.Body.{Body}
+use Rattle.flattening.specs.declared.body.Body.{Body}
 use Rattle.flattening.specs.Flatten.Note.{enters, opens, closes, stays}
 use Rattle.flattening.specs.Flatten.Numbered.{stray, numbered}
 use Rattle.flattening.specs.Flatten.Flat.{flat}

@@ -11,7 +11,7 @@ use Rattle.ops.specs.Storage.{fill}
 use Rattle.ops.specs.Write.{placed, encodeAll}
 use Rattle.ops.proofs.Storage.{placed-then, length-placed, fill-snoc}
 use Rattle.flattening.specs.Flatten.{body, bodies, gathered, others}
-use Rattle.flattening.specs.declared.answer.Body.{Body}
+use Rattle.flattening.specs.declared.body.Body.{Body}
 use Rattle.flattening.specs.Scope.{listed}
 use Rattle.flattening.specs.Flattened.{numberIn, firstIn, countIn}
 use Rattle.flattening.proofs.Flags.{others-listed, listed-over, listed-at}

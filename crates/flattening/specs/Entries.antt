@@ -4,9 +4,10 @@ use mathlib.Core.Bool.{cond}
 use mathlib.Core.List.{List, [], _∷_, _++_, map}
 use lib.Dec.{ltb}
 use lib.ListN.{length, getD, drop}
-use Rattle.flattening.specs.Flattened.{Outcome, numberOf, placeOf, bytesOf, bodiesOf, numberIn, firstIn, countIn, flattenOf}
-use Rattle.flattening.specs.declared.answer.Body.{Body}
-use Rattle.flattening.specs.declared.answer.Flattened.{Flattened}
+use Rattle.answers.specs.Flatten.{numberOf, placeOf, bytesOf, bodiesOf}
+use Rattle.flattening.specs.Flattened.{Outcome, numberIn, firstIn, countIn, flattenOf}
+use Rattle.flattening.specs.declared.body.Body.{Body}
+use Rattle.answers.specs.declared.flatten.Flattened.{Flattened}
 use Rattle.flattening.specs.declared.export.Report.{Report}
 use Rattle.flattening.specs.declared.flatten.Columns.{Columns}
 

@@ -9,7 +9,7 @@ use Rattle.ops.specs.Op.{Op, Control}
 use Rattle.ops.specs.Op.Control.{function, call, ret, while, if, else, end}
 use Rattle.ops.specs.Op.Op.{control, set, load, plain}
 use Rattle.machine_model.specs.Step.{enter}
-use Rattle.flattening.specs.declared.answer.Body.{Body}
+use Rattle.flattening.specs.declared.body.Body.{Body}
 
 -- what an op is to flattening: a Function mark enters a body, If and While open a bracket in it, End closes one or the body
 pub data Note : Type 0 where

@@ -10,7 +10,7 @@ use Rattle.ops.specs.Op.{Op}
 use Rattle.flattening.specs.Flatten.{Note, note, Flat}
 use Rattle.flattening.specs.Flatten.Note.{enters, opens, closes, stays}
 use Rattle.flattening.specs.Flatten.Flat.{loose, flat}
-use Rattle.flattening.specs.declared.answer.Body.{Body}
+use Rattle.flattening.specs.declared.body.Body.{Body}
 
 -- ---- `functions`, a `HashMap<i32, Vec<StandardOp>>`: a number and its ops, each number once; a map has no order, here the numbers rise
 

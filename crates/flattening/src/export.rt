@@ -1,13 +1,13 @@
 // Flattening for callers in C and Rust.
 ghost use mathlib.Core.Path.{_≡_};
 ghost use Rattle.flattening.specs.Entries.{reportOf, flattenTo};
-use crate::answer::Body;
-use crate::answer::Flattened;
-use crate::answer::bodies_of;
-use crate::answer::bytes_of;
-use crate::answer::number_of;
-use crate::answer::place_of;
+use crate::body::Body;
 use crate::flatten::flatten;
+use answers::flatten::Flattened;
+use answers::flatten::bodies_of;
+use answers::flatten::bytes_of;
+use answers::flatten::number_of;
+use answers::flatten::place_of;
 
 // The number given back with its place; the bytes and the entries that were written.
 #[repr(C)]

@@ -2,12 +2,13 @@
 ghost use mathlib.Core.Path.{_≡_};
 ghost use Prim.Native.Nat.{_<_, _≤_};
 ghost use lib.ListN.{length, take, replicate};
-ghost use Rattle.flattening.specs.Flattened.{bodiesOf, outcome, flattenOf};
+ghost use Rattle.answers.specs.Flatten.{bodiesOf};
+ghost use Rattle.flattening.specs.Flattened.{outcome, flattenOf};
 ghost use Rattle.flattening.specs.Entries.{listing, flattenTo, roomOf, entryAt, entriesIn, over};
-use crate::answer::Body;
-use crate::answer::Flattened;
-use crate::answer::bodies_of;
+use crate::body::Body;
 use crate::numbers::flatten_numbers;
+use answers::flatten::Flattened;
+use answers::flatten::bodies_of;
 use ops::limits::MARKS;
 
 // The answer, how many entries there are, and their numbers, first ops and op counts.

@@ -1,5 +1,5 @@
 // Flattening: each function's own ops, then main.
-pub mod answer; // what flattening answers
+pub mod body; // an entry of the caller's list
 mod numbering; // the body that each op is in
 mod bodies; // the records of the bodies, one body after another
 pub mod numbers; // a whole file, with the entries of the bodies in three lists of numbers

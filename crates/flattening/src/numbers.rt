@@ -2,10 +2,10 @@
 ghost use mathlib.Core.Path.{_≡_};
 ghost use Rattle.flattening.specs.Scope.{rowMarks};
 ghost use Rattle.flattening.specs.Flattened.{outcome, flattenOf};
-use crate::answer::Flattened;
 use crate::bodies::write_bodies;
 use crate::numbering::Numbering;
 use crate::numbering::number_ops;
+use answers::flatten::Flattened;
 use ops::bytes::wide;
 use ops::reader::load;
 use ops::reader::mark_of;

@@ -19,9 +19,10 @@ use Rattle.file_laws.proofs.Fitting.{file-fit}
 use Rattle.file_laws.proofs.Rewritten.{bytes-back}
 use Rattle.file_laws.proofs.RoundTrip.{ops-back}
 use Rattle.joining.specs.Join.{join}
-use Rattle.joining.specs.Joined.{Outcome, outcome, write, joinedAs, joinOf, numberOf, placeOf, lengthOf}
-use Rattle.joining.specs.declared.join.Joined.{Joined}
-use Rattle.joining.specs.declared.join.Joined.the-variants.{NoRoom}
+use Rattle.joining.specs.Joined.{Outcome, outcome, write, joinedAs, joinOf}
+use Rattle.answers.specs.Join.{numberOf, placeOf, lengthOf}
+use Rattle.answers.specs.declared.join.Joined.{Joined}
+use Rattle.answers.specs.declared.join.Joined.the-variants.{NoRoom}
 use Rattle.joining.proofs.Pushes.{weigh, join-light, join-has}
 use Rattle.joining.proofs.Sizes.{join-shorter}
 

@@ -21,7 +21,7 @@ use Rattle.file_laws.proofs.Rewritten.{bytes-back}
 use Rattle.joining.specs.Join.{join}
 use Rattle.joining.specs.Joined.{outcome, joinedAs, joinOf}
 use Rattle.joining.specs.Stack.{stack, Holds, after, opOf, file, Within}
-use Rattle.joining.specs.declared.join.Joined.the-variants.{BadFile, NoRoom, Written}
+use Rattle.answers.specs.declared.join.Joined.the-variants.{BadFile, NoRoom, Written}
 use Rattle.joining.proofs.Seen.{joined-seen}
 use Rattle.joining.proofs.Sizes.{join-shorter}
 

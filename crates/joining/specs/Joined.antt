@@ -10,26 +10,8 @@ use Rattle.ops.specs.Ops.Patch.{ops, refused}
 use Rattle.ops.specs.Op.{Op}
 use Rattle.ops.specs.Write.{encodeAll}
 use Rattle.joining.specs.Join.{join}
-use Rattle.joining.specs.declared.join.Joined.{Joined}
-use Rattle.joining.specs.declared.join.Joined.the-variants.{BadFile, NoRoom, Written}
-
--- the first column of 'Numbers given back': a bad file's own, 40, or 0
-abbrev pub numberOf : Joined → ℕ
-numberOf (BadFile n p) = n
-numberOf NoRoom = 40
-numberOf (Written n l) = 0
-
--- its last column: a bad file's byte, 0, or the result's op count
-abbrev pub placeOf : Joined → ℕ
-placeOf (BadFile n p) = p
-placeOf NoRoom = 0
-placeOf (Written n l) = n
-
--- "Written, the byte length is given too"
-abbrev pub lengthOf : Joined → ℕ
-lengthOf (BadFile n p) = 0
-lengthOf NoRoom = 0
-lengthOf (Written n l) = l
+use Rattle.answers.specs.declared.join.Joined.{Joined}
+use Rattle.answers.specs.declared.join.Joined.the-variants.{BadFile, NoRoom, Written}
 
 -- the answer, and the lent bytes
 pub record Outcome : Type 0 where

@@ -10,14 +10,8 @@ use crate::stack::push;
 use crate::write::place_of;
 use crate::write::value_of;
 use crate::write::write_all;
+use answers::join::Joined;
 use ops::reader::load;
-
-// The file's own refusal and its place; no room; or the result's op count and byte length.
-pub enum Joined {
-    BadFile(usize, usize),
-    NoRoom,
-    Written(usize, usize),
-}
 
 // Each of the file's ops pushed in turn; how many entries are left.
 fn push_all(

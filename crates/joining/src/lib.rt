@@ -2,4 +2,3 @@
 mod stack; // the push of an op on the ops before it
 mod write; // the ops left, as a file
 pub mod join; // a whole file
-pub mod answer; // the numbers of its answer

@@ -7,8 +7,10 @@ use lib.ListN.{length}
 use Rattle.lanes.specs.Lane.{zipTo, beside}
 use Rattle.ops.specs.declared.reader.Read.{Read}
 use Rattle.bridge.specs.Run.{Ran}
-use Rattle.patch_check.specs.Verdict as verdict
-use Rattle.patch_check.specs.declared.verdict.Verdict.{Verdict}
+use Rattle.answers.specs.Check as checking
+use Rattle.answers.specs.declared.check.Verdict.{Verdict}
+use Rattle.answers.specs.Join as joining
+use Rattle.answers.specs.Flatten as flattening
 use Rattle.joining.specs.Joined as joined
 use Rattle.flattening.specs.Flattened as flattened
 
@@ -30,7 +32,7 @@ ofRead r a = given (r .number) (told (r .number ∷ r .place ∷ r .ops ∷ []) 
 
 -- number and place
 abbrev pub ofCheck : Verdict → List ℕ → Given
-ofCheck v a = given (verdict.numberOf v) (told (verdict.numberOf v ∷ verdict.placeOf v ∷ []) a)
+ofCheck v a = given (checking.numberOf v) (told (checking.numberOf v ∷ checking.placeOf v ∷ []) a)
 
 -- ---- the run: number, place, steps and the count of outputs; and the lent slices
 pub record Run : Type 0 where
@@ -59,8 +61,8 @@ join n a s = record { given = given n a; out = s }
 
 abbrev pub ofJoin : joined.Outcome → List ℕ → Join
 ofJoin r a =
-    join (joined.numberOf (r .answer))
-    (told (joined.numberOf (r .answer) ∷ joined.placeOf (r .answer) ∷ joined.lengthOf (r .answer) ∷ []) a) (r .bytes)
+    join (joining.numberOf (r .answer))
+    (told (joining.numberOf (r .answer) ∷ joining.placeOf (r .answer) ∷ joining.lengthOf (r .answer) ∷ []) a) (r .bytes)
 
 -- ---- flattening: number, place, the bytes and the bodies written; and the lent bytes and lists
 pub record Flatten : Type 0 where
@@ -75,6 +77,6 @@ flatten n a s ns fs cs = record { given = given n a; out = s; numbers = ns; firs
 
 abbrev pub ofFlatten : flattened.Outcome → List ℕ → Flatten
 ofFlatten r a =
-    flatten (flattened.numberOf (r .answer))
-    (told (flattened.numberOf (r .answer) ∷ flattened.placeOf (r .answer) ∷ flattened.bytesOf (r .answer) ∷ flattened.bodiesOf (r .answer) ∷ []) a)
+    flatten (flattening.numberOf (r .answer))
+    (told (flattening.numberOf (r .answer) ∷ flattening.placeOf (r .answer) ∷ flattening.bytesOf (r .answer) ∷ flattening.bodiesOf (r .answer) ∷ []) a)
     (r .out) (r .numbers) (r .firsts) (r .counts)

@@ -30,8 +30,8 @@ pub extern "C" fn feltcairn_check(bytes: &[u8], answer: &mut [u64]) -> usize
     ensures { λ r. ⌜ given r (now (answer .exit)) ≡ ofCheck (checkOf (now (bytes .entry))) (now (answer .entry)) ⌝ }
 {
     let v = patch_check::check::check(bytes);
-    let number = patch_check::verdict::number_of(v);
-    let place = patch_check::verdict::place_of(v);
+    let number = answers::check::number_of(v);
+    let place = answers::check::place_of(v);
     let told = [number as u64, place as u64];
     tell(answer, &told);
     number
@@ -55,14 +55,11 @@ pub extern "C" fn feltcairn_run_fresh(
     let r = Machine::run_fresh(bytes, register, tape, table, channel, input, output, budget);
     let a = r.answer;
     let h = r.machine.place;
-    let number = machine::machine::number_of(a);
-    let place = machine::machine::place_of(a, h.position);
-    let told = [
-        number as u64,
-        place as u64,
-        r.steps as u64,
-        h.written as u64,
-    ];
+    let number = answers::machine::number_of(a);
+    let place = answers::machine::place_of(a, h.position);
+    let steps = r.steps;
+    let written = h.written;
+    let told = [number as u64, place as u64, steps as u64, written as u64];
     tell(answer, &told);
     number
 }
@@ -73,9 +70,9 @@ pub extern "C" fn feltcairn_join(bytes: &[u8], out: &mut [u8], answer: &mut [u64
     ensures { λ r. ⌜ join r (now (answer .exit)) (now (out .exit)) ≡ ofJoin (joinOf (now (bytes .entry)) (now (out .entry))) (now (answer .entry)) ⌝ }
 {
     let r = joining::join::join(bytes, out);
-    let number = joining::answer::number_of(r);
-    let place = joining::answer::place_of(r);
-    let length = joining::answer::length_of(r);
+    let number = answers::join::number_of(r);
+    let place = answers::join::place_of(r);
+    let length = answers::join::length_of(r);
     let told = [number as u64, place as u64, length as u64];
     tell(answer, &told);
     number
@@ -94,10 +91,10 @@ pub extern "C" fn feltcairn_flatten_numbers(
     ensures { λ r. ⌜ flatten r (now (answer .exit)) (now (out .exit)) (now (numbers .exit)) (now (firsts .exit)) (now (counts .exit)) ≡ ofFlatten (flattenOf (now (bytes .entry)) (now (out .entry)) (now (numbers .entry)) (now (firsts .entry)) (now (counts .entry))) (now (answer .entry)) ⌝ }
 {
     let r = flattening::numbers::flatten_numbers(bytes, out, numbers, firsts, counts);
-    let number = flattening::answer::number_of(r);
-    let place = flattening::answer::place_of(r);
-    let length = flattening::answer::bytes_of(r);
-    let bodies = flattening::answer::bodies_of(r);
+    let number = answers::flatten::number_of(r);
+    let place = answers::flatten::place_of(r);
+    let length = answers::flatten::bytes_of(r);
+    let bodies = answers::flatten::bodies_of(r);
     let told = [number as u64, place as u64, length as u64, bodies as u64];
     tell(answer, &told);
     number

@@ -1,4 +1,3 @@
-pub mod Answer
 pub mod Fresh
 pub mod Formed
 pub mod Calls

@@ -9,10 +9,10 @@ ghost use Rattle.machine.specs.Calls.{lent, stepIn, steppedTo, runOver, 
 use crate::formed::has_room;
 use crate::formed::is_formed;
 use crate::fresh::zero;
-use crate::machine::Answer;
 use crate::machine::Machine;
 use crate::machine::Ran;
 use crate::machine::Stepped;
+use answers::machine::Answer;
 use machine_ops::place::Place;
 
 // Halted, or past the last of n ops.

@@ -1,23 +1,13 @@
-// The machine: its stacks and its numbers, with its limits and its fresh state; and what its calls answer.
+// The machine: its stacks and its numbers, with its limits and its fresh state; and what its calls leave.
 ghost use mathlib.Core.Path.{_≡_};
-ghost use Rattle.machine.specs.Answer.{numberOf, placeOf};
 ghost use Rattle.machine.specs.Fresh.{freshOf};
+use answers::machine::Answer;
 use machine_ops::place::Place;
 
 pub struct Machine {
     pub calls: [u16; 256],
     pub refs: [u32; 256],
     pub place: Place,
-}
-
-// What a call answers; specs/Answer has 01's number and place for each.
-pub enum Answer {
-    BadFile(usize, usize),
-    NotAState,
-    Went,
-    Finished,
-    Spent,
-    Refused(u32),
 }
 
 pub struct Stepped {
@@ -71,32 +61,5 @@ impl Machine {
                 halted: false,
             },
         }
-    }
-}
-
-// The number that is given back, and the place that goes with it, where the machine is at op `at`.
-pub fn number_of(answer: Answer) -> usize
-    ensures { λ r. ⌜ r ≡ numberOf answer ⌝ }
-{
-    match answer {
-        Answer::BadFile(number, _) => number,
-        Answer::NotAState => 37,
-        Answer::Went => 0,
-        Answer::Finished => 0,
-        Answer::Spent => 50,
-        Answer::Refused(number) => number as usize,
-    }
-}
-
-pub fn place_of(answer: Answer, at: usize) -> usize
-    ensures { λ r. ⌜ r ≡ placeOf answer at ⌝ }
-{
-    match answer {
-        Answer::BadFile(_, place) => place,
-        Answer::NotAState => 0,
-        Answer::Went => at,
-        Answer::Finished => at,
-        Answer::Spent => at,
-        Answer::Refused(_) => at,
     }
 }

@@ -19,12 +19,12 @@ use Rattle.machine_model.specs.Run.{Answer, run}
 use Rattle.machine_model.proofs.Cases.{one, minus}
 use Rattle.machine_model.proofs.Cases as more
 use Rattle.patch_check.specs.Check.{check}
-use Rattle.patch_check.specs.Verdict.{numberOf, placeOf}
-use Rattle.patch_check.specs.declared.verdict.Verdict.{Verdict}
+use Rattle.answers.specs.Check.{numberOf, placeOf}
+use Rattle.answers.specs.declared.check.Verdict.{Verdict}
 use Rattle.joining.specs.Join.{join}
 use Rattle.flattening.specs.Flatten.{flatten, Flat}
 use Rattle.flattening.specs.Flatten.Flat.{loose, flat}
-use Rattle.flattening.specs.declared.answer.Body.{Body}
+use Rattle.flattening.specs.declared.body.Body.{Body}
 
 -- a patch and its input, checked and run as the runner does; a patch joined; a patch flattened; a run over a tape, a room and a budget of its
 -- own; values sent to an empty ring that starts at a place, and taken again

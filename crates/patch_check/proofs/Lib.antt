@@ -1,9 +1,3 @@
-pub mod Partner
-pub mod Scanned
-pub mod Checked
 pub mod Turns
 pub mod Seen
 pub mod Loaded
-pub mod File
-pub mod Safe
-pub mod Cases

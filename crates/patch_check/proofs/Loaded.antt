@@ -13,8 +13,8 @@ use Rattle.machine_model.specs.State.{lanes}
 use Rattle.patch_check.specs.Check.{check}
 use Rattle.patch_check.specs.Rows.{rowScan}
 use Rattle.patch_check.specs.File.{checkOf}
-use Rattle.patch_check.specs.declared.verdict.Verdict.{Verdict}
-use Rattle.patch_check.specs.declared.verdict.Verdict.the-variants.{BadFile}
+use Rattle.answers.specs.declared.check.Verdict.{Verdict}
+use Rattle.answers.specs.declared.check.Verdict.the-variants.{BadFile}
 use Rattle.patch_check.proofs.Seen.{same-scan}
 
 module _ (s : List ℕ) (r : Read) (e : r ≡ readOf (patchOf s)) where

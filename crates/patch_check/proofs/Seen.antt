@@ -22,7 +22,7 @@ use Rattle.file_laws.proofs.Meaning.{means}
 use Rattle.patch_check.specs.Rules.{opens, closes, asks, leaves}
 use Rattle.patch_check.specs.Check.{strayEnd, strayElse, depth, from, ended, scan}
 use Rattle.patch_check.specs.Rows.{opensOf, endsOf, elsesOf, needOf, afterOf, fromOf, rowScan}
-use Rattle.patch_check.specs.declared.verdict.Verdict.the-variants.{Passed, NeverClosed}
+use Rattle.answers.specs.declared.check.Verdict.the-variants.{Passed, NeverClosed}
 
 -- ---- brackets: tested at each of the 62 rows by one computation
 

@@ -11,8 +11,8 @@ use lib.ListN.{length, drop, getD, drop-of-length-le}
 use lib.Seq.{drop-cons}
 use Rattle.machine_model.specs.State.{lanes}
 use Rattle.patch_check.specs.Rows.{opensOf, endsOf, elsesOf, needOf, afterOf, fromOf, rowScan}
-use Rattle.patch_check.specs.declared.verdict.Verdict.{Verdict}
-use Rattle.patch_check.specs.declared.verdict.Verdict.the-variants.{Passed, NoOpenEnd, NoOpenElse, FewLanes, NeverClosed}
+use Rattle.answers.specs.declared.check.Verdict.{Verdict}
+use Rattle.answers.specs.declared.check.Verdict.the-variants.{Passed, NoOpenEnd, NoOpenElse, FewLanes, NeverClosed}
 
 -- before op i, m lanes are known and d brackets open, the outermost at f: the rest gives the answer of the whole
 pub record Checking (ks ns : List ℕ) (m d f i : ℕ) : Type 0 where

@@ -7,8 +7,8 @@ use Rattle.ops.specs.Op.{Op, Mark, mark}
 use Rattle.ops.specs.Op.Mark.{up, down, mid, flat}
 use Rattle.machine_model.specs.State.{lanes}
 use Rattle.patch_check.specs.Rules.{asks, leaves}
-use Rattle.patch_check.specs.declared.verdict.Verdict.{Verdict}
-use Rattle.patch_check.specs.declared.verdict.Verdict.the-variants.{Passed, NoOpenEnd, NoOpenElse, FewLanes, NeverClosed}
+use Rattle.answers.specs.declared.check.Verdict.{Verdict}
+use Rattle.answers.specs.declared.check.Verdict.the-variants.{Passed, NoOpenEnd, NoOpenElse, FewLanes, NeverClosed}
 
 -- an End, and an Else, where no bracket is open
 abbrev pub strayEnd : Mark → ℕ → Bool

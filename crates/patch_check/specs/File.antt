@@ -7,8 +7,8 @@ use Rattle.ops.specs.Ops.{Patch, opsOf}
 use Rattle.ops.specs.Ops.Patch.{ops, refused}
 use Rattle.patch_check.specs.Rules.{KeepsRules}
 use Rattle.patch_check.specs.Check.{check}
-use Rattle.patch_check.specs.declared.verdict.Verdict.{Verdict}
-use Rattle.patch_check.specs.declared.verdict.Verdict.the-variants.{BadFile}
+use Rattle.answers.specs.declared.check.Verdict.{Verdict}
+use Rattle.answers.specs.declared.check.Verdict.the-variants.{BadFile}
 
 -- "Every public call reads the patch first": a bad file's refusal, else the check of its ops
 abbrev pub checkPatch : Patch → Verdict

@@ -4,8 +4,8 @@ use mathlib.Core.Bool.{cond}
 use mathlib.Core.List.{List, [], _∷_}
 use lib.Dec.{ltb, eqb}
 use Rattle.ops.specs.Kinds.{need, after, kindAt}
-use Rattle.patch_check.specs.declared.verdict.Verdict.{Verdict}
-use Rattle.patch_check.specs.declared.verdict.Verdict.the-variants.{Passed, NoOpenEnd, NoOpenElse, FewLanes, NeverClosed}
+use Rattle.answers.specs.declared.check.Verdict.{Verdict}
+use Rattle.answers.specs.declared.check.Verdict.the-variants.{Passed, NoOpenEnd, NoOpenElse, FewLanes, NeverClosed}
 
 -- Function, While and If open a bracket, End closes one, Else must stand in one
 unfoldable pub opensOf : ℕ → ℕ

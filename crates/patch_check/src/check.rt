@@ -10,7 +10,7 @@ use crate::rows::elses_of;
 use crate::rows::ends_of;
 use crate::rows::need_of;
 use crate::rows::opens_of;
-use crate::verdict::Verdict;
+use answers::check::Verdict;
 use ops::bytes::wide;
 use ops::limits::LANES;
 use ops::reader::load;

@@ -25,10 +25,10 @@ fn check(tell: Tell, file: &[u8], case: &[u8]) -> Found {
         return Found::Damaged;
     }
     let v = patch_check::check::check(file);
-    if !tell.same(b"number", word(case, 0), patch_check::verdict::number_of(v)) {
+    if !tell.same(b"number", word(case, 0), answers::check::number_of(v)) {
         return Found::Differs;
     }
-    if !tell.same(b"place", word(case, 4), patch_check::verdict::place_of(v)) {
+    if !tell.same(b"place", word(case, 4), answers::check::place_of(v)) {
         return Found::Differs;
     }
     Found::Agrees

@@ -13,10 +13,10 @@ use crate::state::after_machine;
 use crate::state::machine_at;
 use crate::state::same_machine;
 use crate::tell::Tell;
+use answers::machine::number_of;
+use answers::machine::place_of;
 use machine::machine::Machine;
 use machine::machine::Ran;
-use machine::machine::number_of;
-use machine::machine::place_of;
 use streams::part::of_lanes;
 use streams::part::of_places;
 

@@ -5,8 +5,8 @@ use crate::list::after_bytes;
 use crate::list::byte;
 use crate::list::word;
 use crate::tell::Tell;
-use flattening::answer::Flattened;
-use joining::join::Joined;
+use answers::flatten::Flattened;
+use answers::join::Joined;
 use streams::part::of_bytes;
 use streams::part::of_numbers;
 
@@ -147,10 +147,10 @@ fn same_flat(
     firsts: &[u32],
     counts: &[u32],
 ) -> bool {
-    let number = flattening::answer::number_of(r);
-    let place = flattening::answer::place_of(r);
-    let bytes = flattening::answer::bytes_of(r);
-    let bodies = flattening::answer::bodies_of(r);
+    let number = answers::flatten::number_of(r);
+    let place = answers::flatten::place_of(r);
+    let bytes = answers::flatten::bytes_of(r);
+    let bodies = answers::flatten::bodies_of(r);
     same_answer(tell, case, 9, number, place, bytes, out)
         && same_lists(tell, case, bodies, numbers, firsts, counts)
 }

@@ -1,9 +1,9 @@
 // The runner: a patch on standard input, checked and run from fresh with no input values, 4,096 cells, room for 4,096 outputs and a budget of
 // 100,000 steps. It prints the check's number and place, the run's number, steps and place, and the outputs; of a bad file `load`, its number
 // and place alone.
+use answers::machine::number_of;
+use answers::machine::place_of;
 use machine::machine::Machine;
-use machine::machine::number_of;
-use machine::machine::place_of;
 use streams::print::end_line;
 use streams::print::lanes;
 use streams::print::number;
@@ -47,8 +47,8 @@ fn run(file: &[u8]) {
 
 fn check_and_run(file: &[u8]) {
     let v = patch_check::check::check(file);
-    let n = patch_check::verdict::number_of(v);
-    let place = patch_check::verdict::place_of(v);
+    let n = answers::check::number_of(v);
+    let place = answers::check::place_of(v);
     if 0 < n && n < 10 {
         show_answer(b"load", n, place);
     } else {

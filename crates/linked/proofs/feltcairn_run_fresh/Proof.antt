@@ -20,4 +20,4 @@ feltcairn-run-fresh-spec =
     (λ c. search needs)
     (λ c. search needs)
     (λ c. search needs)
-    (λ c. rw (← c .before .before .before .before .before .before .before .before .before .before .before .before .before .before .before .before .before .before .before .run-fresh .ensures, c .before .before .tell .ensures, c .before .before .before .before .before .before .before .number-of .ensures, c .before .before .before .before .before .before .place-of .ensures) refl))
+    (λ c. rw (← c .before .before .before .before .before .before .before .before .before .before .before .before .before .before .before .before .before .before .run-fresh .ensures, c .before .before .tell .ensures, c .before .before .before .before .before .before .number-of .ensures, c .before .before .before .before .before .place-of .ensures) refl))

@@ -39,12 +39,12 @@ use denote.Triple.Walked.{says, Stays, stay-none-slice, gave-slice, walkOf, goes
 use denote.Triple.Clauses.{ensured, lasts}
 use denote.Exit.{yes}
 use Rattle.flattening.specs.Entries.{listing, Listing, flattenTo, reportOf}
-use Rattle.flattening.specs.declared.answer.Body.{Body}
-use Rattle.flattening.specs.declared.answer.Flattened.{Flattened}
+use Rattle.flattening.specs.declared.body.Body.{Body}
+use Rattle.answers.specs.declared.flatten.Flattened.{Flattened}
 use Rattle.flattening.specs.declared.export.Report.{Report}
-use Rattle.flattening.proofs.answer.Body as T
-use Rattle.flattening.proofs.answer.Flattened as D
-use Rattle.flattening.proofs.answer.Flattened.Laws as D′
+use Rattle.flattening.proofs.body.Body as T
+use Rattle.answers.proofs.flatten.Flattened as D
+use Rattle.answers.proofs.flatten.Flattened.Laws as D′
 use Rattle.flattening.proofs.export.Report as S
 use Rattle.flattening.proofs.export.Report.Laws as S′
 use Rattle.flattening.proofs.flatten.flatten as flatten

@@ -41,17 +41,18 @@ use denote.Triple.Table.{entered, cited}
 use denote.Triple.Walked.{says, Stays, stay-none-slice, gave-slice, walkOf, goes-none-slice, goes-gave-slice, Walks, ends-at, walked, walk-meets}
 use denote.Triple.Clauses.{ensured, lasts}
 use denote.Exit.{yes}
-use Rattle.flattening.specs.Flattened.{bodiesOf, outcome, flattenOf}
+use Rattle.answers.specs.Flatten.{bodiesOf}
+use Rattle.flattening.specs.Flattened.{outcome, flattenOf}
 use Rattle.flattening.specs.Entries.{listing, flattenTo, roomOf, entriesIn, over}
-use Rattle.flattening.specs.declared.answer.Body.{Body}
-use Rattle.flattening.specs.declared.answer.Flattened.{Flattened}
+use Rattle.flattening.specs.declared.body.Body.{Body}
+use Rattle.answers.specs.declared.flatten.Flattened.{Flattened}
 use Rattle.flattening.specs.declared.flatten.Columns.{Columns}
 use Rattle.flattening.proofs.Entries.{list-made}
-use Rattle.flattening.proofs.answer.Body as T
+use Rattle.flattening.proofs.body.Body as T
 use Rattle.flattening.proofs.flatten.Columns as F
 use Rattle.flattening.proofs.flatten.Columns.Laws as F′
-use Rattle.flattening.proofs.answer.Flattened as D
-use Rattle.flattening.proofs.answer.Flattened.Laws as D′
+use Rattle.answers.proofs.flatten.Flattened as D
+use Rattle.answers.proofs.flatten.Flattened.Laws as D′
 use Rattle.flattening.proofs.flatten.flatten_columns as flatten-columns
 use Rattle.flattening.proofs.flatten.flatten_columns.Symbol as flatten-columns-def
 use Rattle.flattening.proofs.flatten.flatten_columns.Symbol.{name as #flatten-columns}

@@ -51,11 +51,11 @@ use denote.Triple.Walked.{says, needs, Stays, stay-none, stay-slice, walkOf, goe
 use denote.Triple.Clauses.{ensured, lasts}
 use denote.Exit.{yes}
 use Rattle.flattening.specs.Entries.{entry, entryAt, entriesIn, over}
-use Rattle.flattening.specs.declared.answer.Body.{Body}
+use Rattle.flattening.specs.declared.body.Body.{Body}
 use Rattle.flattening.specs.declared.flatten.Columns.{Columns}
 use Rattle.flattening.proofs.Entries.{over-none, over-more}
-use Rattle.flattening.proofs.answer.Body as T
-use Rattle.flattening.proofs.answer.Body.Laws as T′
+use Rattle.flattening.proofs.body.Body as T
+use Rattle.flattening.proofs.body.Body.Laws as T′
 use Rattle.flattening.proofs.flatten.Columns as F
 use Rattle.flattening.proofs.flatten.Columns.Laws as F′
 use Rattle.flattening.proofs.flatten.body_at as body-at

@@ -1,0 +1,40 @@
+// What a step, a run and a fresh run answer.
+ghost use mathlib.Core.Path.{_≡_};
+ghost use Rattle.answers.specs.Machine.{numberOf, placeOf};
+
+// What a call answers; specs/Machine has 01's number and place for each.
+pub enum Answer {
+    BadFile(usize, usize),
+    NotAState,
+    Went,
+    Finished,
+    Spent,
+    Refused(u32),
+}
+
+// The number that is given back, and the place that goes with it, where the machine is at op `at`.
+pub fn number_of(answer: Answer) -> usize
+    ensures { λ r. ⌜ r ≡ numberOf answer ⌝ }
+{
+    match answer {
+        Answer::BadFile(number, _) => number,
+        Answer::NotAState => 37,
+        Answer::Went => 0,
+        Answer::Finished => 0,
+        Answer::Spent => 50,
+        Answer::Refused(number) => number as usize,
+    }
+}
+
+pub fn place_of(answer: Answer, at: usize) -> usize
+    ensures { λ r. ⌜ r ≡ placeOf answer at ⌝ }
+{
+    match answer {
+        Answer::BadFile(_, place) => place,
+        Answer::NotAState => 0,
+        Answer::Went => at,
+        Answer::Finished => at,
+        Answer::Spent => at,
+        Answer::Refused(_) => at,
+    }
+}
