@@ -10,7 +10,7 @@ use crate::stack::push;
 use crate::write::place_of;
 use crate::write::value_of;
 use crate::write::write_all;
-use ops::reader::load;
+use patch_reader::reader::load;
 
 // The file's own refusal and its place; no room; or the result's op count and byte length.
 pub enum Joined {

@@ -5,7 +5,7 @@ use Prim.Native.Nat.{ℕ}
 use lib.Dec.{ltb}
 use lib.ListN.{length}
 use Rattle.lanes.specs.Lane.{zipTo, beside}
-use Rattle.ops.specs.declared.reader.Read.{Read}
+use Rattle.patch_reader.specs.declared.reader.Read.{Read}
 use Rattle.machine_step.specs.Run.{Ran}
 use Rattle.patch_check.specs.Verdict as verdict
 use Rattle.patch_check.specs.declared.verdict.Verdict.{Verdict}
