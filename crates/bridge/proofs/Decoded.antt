@@ -8,7 +8,7 @@ use native.Mathlib.Nat.{not-suc-le-zero, le-of-suc-le-suc}
 use lib.Dec.{leb, eqb}
 use lib.ListN.{length, getD, length-map, List·getD-map, List·getD-eq-default}
 use borrow.Author.Tests.{leb-true, leb-false, eqb-true}
-use Rattle.ops.specs.Kinds.{shape, kindAt, runNeed}
+use Rattle.kind_table.specs.Kinds.{shape, kindAt, runNeed}
 use Rattle.ops.specs.Record.{lengthOk, countOf}
 use Rattle.ops.specs.Patch.{Item, item, patchOf, kindIn, countIn, needIn, placeIn, markOf}
 use Rattle.ops.specs.Op.{Op, Mark, isWhile, needs}
@@ -16,7 +16,7 @@ use Rattle.ops.specs.Op.Plain.{comment}
 use Rattle.ops.specs.Op.Op.{plain}
 use Rattle.ops.specs.Write.{Fits}
 use Rattle.ops.specs.Ops as file
-use Rattle.ops.proofs.Whole.{Tells, tells}
+use Rattle.patch_reader.proofs.Whole.{Tells, tells}
 use Rattle.file_laws.proofs.Items.{IsItem, Every, items-are, item-at, few-items, marksIn, few-marks}
 use Rattle.file_laws.proofs.Rows.{Row, row-rule}
 use Rattle.file_laws.proofs.Fitting.{below-all, item-fits}

@@ -8,7 +8,7 @@ use Rattle.lanes.specs.declared.lane.CellOp.the-variants.{Index, BitwiseNand, B
 use Rattle.lanes.specs.declared.lane.LaneOp.{LaneOp}
 use Rattle.lanes.specs.declared.lane.LaneOp.the-variants.{BitwiseNot, Not, Neg, Inc, Dec, IsNonNegative, ToInt, ToFloat, FloatNeg, FloatIsNonNegative}
 use Rattle.lanes.specs.Lane.{cellRow, laneRow}
-use Rattle.ops.specs.Kinds.{indexOf}
+use Rattle.kind_table.specs.Kinds.{indexOf}
 use Rattle.ops.specs.Op.{Control, Plain, Sort, Op, mark, isFunction, isWhile, kindOf, controlKind, plainKind, setKind, cellKind, laneKind}
 use Rattle.ops.specs.Op.Control.{function, call, ret, while, if, else, end}
 use Rattle.ops.specs.Op.Plain.{comment, store, move, swap, locate, offset, deref, refer, cell, lane, get, put, peek, poke, alloc, free}

@@ -5,7 +5,7 @@ use mathlib.Core.List.{List, [], _∷_}
 use Prim.Native.Nat.{ℕ}
 use Rattle.ops.specs.Bytes.{valuesAt}
 use Rattle.ops.specs.Storage.{fill}
-use Rattle.ops.specs.Kinds.{kindAt, indexOf, runNeed}
+use Rattle.kind_table.specs.Kinds.{kindAt, indexOf, runNeed}
 use Rattle.ops.specs.Record.{recordAt, bodyAt, lengthOk, countOf, modeOf}
 use Rattle.ops.specs.Patch.{patchOf, markOf}
 use Rattle.ops.specs.Ops.{rows, rowAt}

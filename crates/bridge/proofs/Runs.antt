@@ -2,7 +2,7 @@
 use mathlib.Core.Path.{_≡_, _∙_, refl, ap, sym, subst}
 use mathlib.Core.Bool.{Bool, true, false, _||_}
 use mathlib.Core.List.{List}
-use Prim.Native.Nat.{ℕ, zero, suc, _≤_, _<_}
+use Prim.Native.Nat.{ℕ, zero, suc, _≤_}
 use lib.Dec.{leb}
 use lib.ListN.{length}
 use borrow.Author.Tests.{leb-false}
@@ -52,15 +52,6 @@ module _ (s input : List ℕ) where
     -- and so does the next state of a step
     pub step-fits : (t : State) (c : Held) → Fits s input c → step (givenOf s input (length (c .output))) (view c) ≡ next t → Fits s input (lay t c)
     step-fits t c h e = lay-fits t c h (step-formed (givenOf s input (length (c .output))) (limited s b input (length (c .output))) (view c) t (h .formed) e)
-
-    laid-fits : (c : Held) (o : Outcome) → Fits s input c → step (givenOf s input (length (c .output))) (view c) ≡ o → Fits s input (laid c o .held)
-    laid-fits c finished h e = h
-    laid-fits c (refused n) h e = h
-    laid-fits c (next t) h e = step-fits t c h e
-
-    -- what the code's step leaves fits, refused or not
-    pub held-fits : (c : Held) → Fits s input c → c .place .position < length (codeOf s .kinds) → c .place .halted ≡ false → Fits s input (stepOf (codeOf s) input c .held)
-    held-fits c h here e = rw (step-is s input c h here e) (laid-fits c _ h refl)
 
     module _ (room : ℕ) where
       abbrev given : Given
@@ -172,6 +163,3 @@ module _ (s input : List ℕ) where
   pub fresh-fits : (cells : ℕ) (c : Held) → 1024 ≤ length (c .register) → 256 ≤ length (c .table) → 256 ≤ length (c .channel) → length (c .calls) ≡ 256 → length (c .refs) ≡ 256
       → Fits s input (lay (fresh cells) c)
   fresh-fits cells c w u r kc kr = lay-over (fresh cells) c w u r kc kr (fresh-formed (givenOf s input (length (c .output))) cells)
-
-  pub fresh-seen : (cells : ℕ) (c : Held) → 256 ≤ length (c .channel) → view (lay (fresh cells) c) ≡ fresh cells
-  fresh-seen cells c r = view-lay (fresh cells) c (fresh-formed (givenOf s input 0) cells .few-sent) r

@@ -9,7 +9,7 @@ use lib.ListN.{length, getD}
 use lib.Seq.{length-take-le}
 use borrow.Author.Tests.{ltb-false, lt-leb}
 use Rattle.ops.specs.Bytes.{u16At, u64At}
-use Rattle.ops.specs.Kinds.{indexOf}
+use Rattle.kind_table.specs.Kinds.{indexOf}
 use Rattle.ops.specs.Op.{Control, Plain, Op, isFunction, needs, kindOf, plainKind, controlKind}
 use Rattle.ops.specs.Op.Control.{function, call, ret, while, if, else, end}
 use Rattle.ops.specs.Op.Plain.{comment, store, move, swap, locate, offset, deref, refer, cell, lane, get, put, peek, poke, alloc, free}

@@ -58,12 +58,6 @@ known-suc k [] i h = absurd (not-suc-le-zero h)
 known-suc k (o ∷ os) zero h = known-zero (leaves o k) os
 known-suc k (o ∷ os) (suc i) h = known-suc (leaves o k) os i (le-of-suc-le-suc h)
 
-bent-one : (o : Op) (k : ℕ) → bent (mark o) ≡ true → leaves o k ≡ 1
-bent-one (control c) k e = refl
-bent-one (set a vs) k e = clash (cc)
-bent-one (load n) k e = clash (cc)
-bent-one (plain p) k e = clash (cc)
-
 -- ---- places after which one lane is known
 
 abbrev pub Turn : List Op → ℕ → Type 0

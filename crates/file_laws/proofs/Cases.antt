@@ -7,18 +7,19 @@ use borrow.Author.Tests.{lt-ltb}
 use lib.ListN.{length, replicate, length-replicate}
 use Rattle.ops.specs.declared.op.Mode.the-variants.{Char, Int, Other}
 use Rattle.ops.specs.Bytes.{valuesAt, textAt}
-use Rattle.ops.specs.Kinds.{kindAt, indexOf}
+use Rattle.kind_table.specs.Kinds.{kindAt, indexOf}
 use Rattle.ops.specs.Refusals.{numberOf}
 use Rattle.ops.specs.Record.{lengthOk, countOf, modeOf, bodyAt, recordAt}
 use Rattle.ops.specs.Op.Control.{function, end}
 use Rattle.ops.specs.Op.Plain.{comment, move, offset, put, get}
 use Rattle.ops.specs.Op.Sort.{ints, floats}
 use Rattle.ops.specs.Op.Op.{control, set, load, plain}
-use Rattle.ops.specs.Patch.{Loaded, walk, patchOf, readOf, refusedAt, markOf}
+use Rattle.ops.specs.Patch.{Loaded, walk, patchOf, markOf}
+use Rattle.patch_reader.specs.Answer.{readOf, refusedAt}
 use Rattle.ops.specs.Ops.{rows, rowAt, opAt, opsOf}
 use Rattle.ops.specs.Ops.Patch.{ops, refused}
 use Rattle.ops.specs.Write.{encodeAll}
-use Rattle.ops.specs.declared.reader.Read.{Read}
+use Rattle.patch_reader.specs.declared.reader.Read.{Read}
 use Rattle.file_laws.proofs.Crowded.{ends, functions}
 
 abbrev read : ℕ → ℕ → ℕ → Read

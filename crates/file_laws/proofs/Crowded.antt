@@ -9,18 +9,19 @@ use native.Mathlib.Omega.{arith}
 use borrow.Author.Tests.{le-ltb}
 use lib.Dec.{ltb, eqb}
 use lib.ListN.{length, drop, replicate, length-replicate, length-append, length-drop}
-use Rattle.ops.specs.Kinds.{indexOf}
+use Rattle.kind_table.specs.Kinds.{indexOf}
 use Rattle.ops.specs.Refusals.{numberOf}
 use Rattle.ops.specs.Op.{Op, kindOf}
 use Rattle.ops.specs.Op.Control.{function, end}
 use Rattle.ops.specs.Op.Op.{control}
-use Rattle.ops.specs.Patch.{stop, walk, patchOf, markOf, readOf, refusedAt}
+use Rattle.ops.specs.Patch.{stop, walk, patchOf, markOf}
+use Rattle.patch_reader.specs.Answer.{readOf, refusedAt}
 use Rattle.ops.specs.Ops.{opCount}
 use Rattle.ops.specs.Write.{payloadOf, encode, encodeAll, Fits, Each, markIn, marksIn}
 use Rattle.ops.specs.declared.refusals.Refusal.{Refusal}
 use Rattle.ops.specs.declared.refusals.Refusal.the-variants.{TooManyOps, TooManyMarks}
 use Rattle.file_laws.proofs.Digits.{after}
-use Rattle.ops.proofs.Reading.{prepend, walk-full, walk-marks}
+use Rattle.patch_reader.proofs.Reading.{prepend, walk-full, walk-marks}
 use Rattle.file_laws.proofs.Encoded.{known}
 use Rattle.file_laws.proofs.Written.{length-encode, encode-append, written}
 use Rattle.file_laws.proofs.RoundTrip.{itemsOf, length-items, walk-part}

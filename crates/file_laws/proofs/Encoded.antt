@@ -14,7 +14,7 @@ use Rattle.lanes.specs.declared.lane.LaneOp.the-variants.{BitwiseNot, Not, Neg,
 use Rattle.ops.specs.declared.op.Mode.{Mode}
 use Rattle.ops.specs.declared.op.Mode.the-variants.{Char, Int, Other}
 use Rattle.ops.specs.Bytes.{u16At, u32At, u64At}
-use Rattle.ops.specs.Kinds.{shape, kindAt, indexOf}
+use Rattle.kind_table.specs.Kinds.{shape, kindAt, indexOf}
 use Rattle.ops.specs.Record.{lengthOk, countOf, modeOf}
 use Rattle.ops.specs.Op.{Control, Plain, Op, kindOf}
 use Rattle.ops.specs.Op.Control.{function, call, ret, while, if, else, end}

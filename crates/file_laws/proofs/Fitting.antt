@@ -8,7 +8,7 @@ use lib.Dec.{eqb, ltb}
 use lib.ListN.{length, getD, take, drop, length-map}
 use borrow.Author.Tests.{leb-true, eqb-true, ltb-false}
 use Rattle.ops.specs.Bytes.{u16At, u32At, u64At, valuesAt, textAt}
-use Rattle.ops.specs.Kinds.{shape}
+use Rattle.kind_table.specs.Kinds.{shape}
 use Rattle.ops.specs.Record.{lengthOk, countOf}
 use Rattle.ops.specs.Refusals.{numberOf}
 use Rattle.ops.specs.Patch.{Item, Loaded, stop, walk, patchOf, markOf}
@@ -27,7 +27,7 @@ use Rattle.file_laws.proofs.Rewritten.{bytes-back}
 use Rattle.file_laws.proofs.Rows.{rule, row-rule}
 use Rattle.ops.proofs.TextAt.{length-text}
 use Rattle.ops.proofs.ValuesAt.{length-values}
-use Rattle.ops.proofs.Whole.{tells}
+use Rattle.patch_reader.proofs.Whole.{tells}
 use Rattle.ops.proofs.Clash.{clash}
 
 pub below-all : (s : List ℕ) → ((i : ℕ) → getD s i 0 < 256) → Below 256 s

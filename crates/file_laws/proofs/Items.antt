@@ -8,13 +8,11 @@ use native.Mathlib.Nat.{le-of-suc-le-suc, not-suc-le-zero}
 use borrow.Author.Tests.{ltb-false}
 use lib.Dec.{ltb}
 use lib.ListN.{length, getD}
-use Rattle.ops.specs.Kinds.{shape, kindAt}
-use Rattle.ops.specs.Record.{recordAt, lengthOk}
+use Rattle.ops.specs.Record.{recordAt}
 use Rattle.ops.specs.Patch.{Item, Loaded, ending, stop, onRecord, onFull, walk, patchOf, markOf}
 use Rattle.ops.specs.declared.refusals.Refusal.the-variants.{FileTooLong}
 use Rattle.ops.specs.declared.records.Record.{Record}
 use Rattle.ops.specs.declared.records.Record.the-variants.{Whole, Bad}
-use Rattle.ops.proofs.Whole.{tells}
 
 -- the item is the whole record at byte `first`, whose payload has len bytes
 pub record IsItem (s : List ℕ) (i : Item) : Type 0 where
@@ -22,19 +20,6 @@ pub record IsItem (s : List ℕ) (i : Item) : Type 0 where
   pub len : ℕ
   pub next : ℕ
   pub is : recordAt s first ≡ Whole (i .kind) (i .place) len (i .count) next
-
--- its payload lies inside the file, with a length that its kind may have; its count is within 1,024, its row within the table
-pub record Inside (s : List ℕ) (i : Item) : Type 0 where
-  pub row : i .kind < 62
-  pub count : i .count ≤ 1024
-  pub len : ℕ
-  pub fits : lengthOk (shape (kindAt (i .kind))) len ≡ true
-  pub within : i .place + len ≤ length s
-
-pub inside : (s : List ℕ) (i : Item) → IsItem s i → Inside s i
-inside s i h =
-    let t = tells s (h .first) (i .kind) (i .place) (h .len) (i .count) (h .next) (h .is) in
-    record { row = t .small; count = t .few; len = h .len; fits = t .fits; within = omega (arith, t .size, t .within) }
 
 -- ---- each item
 
@@ -71,9 +56,6 @@ module _ (s : List ℕ) where
 
   pub item-at : (d : Item) (i : ℕ) → i < length (patchOf s .items) → IsItem s (getD (patchOf s .items) i d)
   item-at d = every-at (IsItem s) d (patchOf s .items) items-are
-
-  pub item-inside : (d : Item) (i : ℕ) → i < length (patchOf s .items) → Inside s (getD (patchOf s .items) i d)
-  item-inside d i h = inside s (getD (patchOf s .items) i d) (item-at d i h)
 
 -- ---- at most 4,096 ops
 

@@ -2,12 +2,12 @@
 use mathlib.Core.Path.{_≡_, refl, _∙_, sym, ap}
 use mathlib.Core.Bool.{cond}
 use mathlib.Core.List.{List, [], _∷_, map}
-use Prim.Native.Nat.{ℕ, _+_, _<_, _≤_}
+use Prim.Native.Nat.{ℕ, _+_, _≤_}
 use native.Mathlib.Omega.{arith}
 use borrow.Author.Tests.{eq-eqb, ne-eqb}
 use lib.Dec.{eqb}
-use lib.ListN.{length, getD}
-use Rattle.ops.specs.Kinds.{shape, need, indexOf, runNeed}
+use lib.ListN.{length}
+use Rattle.kind_table.specs.Kinds.{shape, need, indexOf, runNeed}
 use Rattle.ops.specs.Record.{countOf}
 use Rattle.ops.specs.Op.{Control, Plain, Op, kindOf, plainKind, needs, needsOf, plainNeeds}
 use Rattle.ops.specs.Op.Control.{function, call, ret, while, if, else, end}
@@ -18,8 +18,8 @@ use Rattle.ops.specs.Ops.{rowAt, plainWith, opWith, opAt, plainCount, opCount, 
 use Rattle.ops.specs.Ops.Patch.{ops, refused}
 use Rattle.ops.proofs.ValuesAt.{length-values}
 use Rattle.ops.proofs.TextAt.{length-text}
-use Rattle.ops.proofs.Whole.{Tells, tells}
-use Rattle.file_laws.proofs.Items.{IsItem, Every, items-are, item-at}
+use Rattle.patch_reader.proofs.Whole.{Tells, tells}
+use Rattle.file_laws.proofs.Items.{IsItem, Every, items-are}
 use Rattle.file_laws.proofs.Rows.{controlRule, plainRule, rule, Row, row-rule}
 
 -- ---- the file's ops
@@ -161,9 +161,6 @@ module _ (s : List ℕ) (i : Item) (h : IsItem s i) where
     count = its-count;
     needed = its-need;
   }
-
-pub item-means : (s : List ℕ) (d : Item) (i : ℕ) → i < length (patchOf s .items) → Means s (getD (patchOf s .items) i d)
-item-means s d i h = means s (getD (patchOf s .items) i d) (item-at s d i h)
 
 -- ---- the arrays' columns are those of the ops
 

@@ -13,7 +13,7 @@ use Rattle.ops.specs.declared.refusals.Refusal.the-variants.{CutShort, WrongLen
 use Rattle.ops.specs.declared.records.Record.{Record}
 use Rattle.ops.specs.declared.records.Record.the-variants.{Whole, Bad}
 use Rattle.ops.specs.Bytes.{u16At, u32At, textAt}
-use Rattle.ops.specs.Kinds.{shape, kindAt, indexOf}
+use Rattle.kind_table.specs.Kinds.{shape, kindAt, indexOf}
 use Rattle.ops.specs.Refusals.{numberOf}
 use Rattle.ops.specs.Record.{recordAt, lengthOk, countOf, modeOf}
 use Rattle.ops.specs.Op.{Plain, Op, kindOf}
@@ -27,7 +27,7 @@ use Rattle.ops.proofs.TextAt.{length-text}
 use Rattle.file_laws.proofs.BytesBack.{text-add, back16, back32, back64, back-values}
 use Rattle.ops.proofs.Clash.{clash}
 use Rattle.file_laws.proofs.Rows.{rule, row-rule}
-use Rattle.ops.proofs.Whole.{tells}
+use Rattle.patch_reader.proofs.Whole.{tells}
 use Rattle.file_laws.proofs.Meaning.{means}
 
 -- ---- the payload

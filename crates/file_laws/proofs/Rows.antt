@@ -4,13 +4,13 @@ use mathlib.Core.Bool.{Bool, true, false, cond, _&&_, _||_}
 use Prim.Native.Nat.{ℕ, _<_}
 use native.Mathlib.Omega.{arith}
 use lib.Dec.{T, leb, eqb, eqb→eq}
-use Rattle.ops.specs.Kinds.{kind, shape, need, after, kinds, kindAt, indexOf}
+use Rattle.kind_table.specs.Kinds.{kind, shape, need, after, kinds, kindAt, indexOf}
 use Rattle.ops.specs.Op.{Control, Plain, Op, kindOf}
 use Rattle.ops.specs.Op.Control.{function, call, ret, while, if, else, end}
 use Rattle.ops.specs.Op.Plain.{comment, store, move, swap, locate, offset, deref, refer, cell, lane, get, put, peek, poke, alloc, free}
 use Rattle.ops.specs.Op.Op.{control, set, load, plain}
 use Rattle.ops.specs.Ops.{rows, rowAt}
-use Rattle.ops.specs.declared.kinds.Kind.{Kind}
+use Rattle.kind_table.specs.declared.kinds.Kind.{Kind}
 use Rattle.file_laws.proofs.Tested.{and-left, and-right, at}
 
 -- "Function, Call, Return, While, If, Else, End .. need 1"; "Else, like Function and Return, needs no lane when run"

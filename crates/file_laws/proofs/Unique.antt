@@ -4,13 +4,14 @@ use mathlib.Core.List.{List, map}
 use Prim.Native.Nat.{ℕ}
 use denote.Ref.{RefT}
 use Rattle.ops.specs.Record.{recordFrom}
-use Rattle.ops.specs.Patch.{Item, patchOf, readOf}
+use Rattle.ops.specs.Patch.{Item, patchOf}
+use Rattle.patch_reader.specs.Answer.{readOf}
 use Rattle.ops.specs.Storage.{fill}
 use Rattle.ops.specs.Write.{Wrote, wrote, writeOf}
 use Rattle.ops.specs.declared.writer.Written.{Written}
 use Rattle.ops.specs.declared.records.Record.{Record}
-use Rattle.ops.specs.declared.record_reader.Reader.{Reader}
-use Rattle.ops.specs.declared.reader.Read.{Read}
+use Rattle.patch_reader.specs.declared.record_reader.Reader.{Reader}
+use Rattle.patch_reader.specs.declared.reader.Read.{Read}
 
 -- of every operation whose contract is one equation for a plain answer: `number_of`, `kind_at`, `u16_at`, `mode_at` and their like,
 -- in each crate

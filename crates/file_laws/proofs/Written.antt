@@ -9,7 +9,7 @@ use lib.Dec.{ltb}
 use lib.ListN.{length, take, drop, length-append, length-drop}
 use lib.Seq.{drop-append-seam, drop-at, length-take-le}
 use Rattle.ops.specs.Bytes.{u16At, u32At}
-use Rattle.ops.specs.Kinds.{shape, kindAt, indexOf}
+use Rattle.kind_table.specs.Kinds.{shape, kindAt, indexOf}
 use Rattle.ops.specs.Record.{recordAt, bodyAt, modeOf}
 use Rattle.ops.specs.declared.records.Record.the-variants.{Whole}
 use Rattle.ops.specs.Op.{Op, kindOf}

@@ -45,7 +45,7 @@ fn again(file: &mut [u8], at: usize, back: usize, n: usize) -> usize
 fn show(file: &[u8], n: usize)
     requires { ⌜ n ≤ length (now file) ⌝ }
 {
-    let r = ops::reader::read_patch(&file[..n]);
+    let r = patch_reader::reader::read_patch(&file[..n]);
     io::print_decimal(1, r.number as u64);
     io::write_all(1, b" ");
     io::print_decimal(1, r.place as u64);

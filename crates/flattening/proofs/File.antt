@@ -11,16 +11,17 @@ use Rattle.ops.specs.Op.{Op}
 use Rattle.ops.specs.Op.Op.{control, set, load, plain}
 use Rattle.ops.specs.Op.Plain.{free}
 use Rattle.ops.specs.Storage.{fill}
-use Rattle.ops.specs.Patch.{Item, kindIn, markOf, patchOf, readOf}
+use Rattle.ops.specs.Patch.{Item, kindIn, markOf, patchOf}
+use Rattle.patch_reader.specs.Answer.{readOf}
 use Rattle.ops.specs.Ops.{rows, rowAt, opWith, opAt}
 use Rattle.ops.specs.Write.{encodeAll, markIn, marksIn}
-use Rattle.ops.specs.declared.reader.Read.{Read}
+use Rattle.patch_reader.specs.declared.reader.Read.{Read}
 use Rattle.file_laws.proofs.Encoded.{known}
 use Rattle.file_laws.proofs.Items.{IsItem, Every, items-are}
 use Rattle.file_laws.proofs.Fitting.{below-all}
 use Rattle.file_laws.proofs.Loaded as loaded
 use Rattle.file_laws.proofs.Meaning.{means, ops-are, refused-are}
-use Rattle.ops.proofs.Whole.{tells}
+use Rattle.patch_reader.proofs.Whole.{tells}
 use Rattle.flattening.specs.Flatten.{Note, note, notes, Numbered, number, body, bodies, gathered, others, laid, flatten, Flat}
 use Rattle.flattening.specs.Flatten.Note.{stays}
 use Rattle.flattening.specs.Flatten.Numbered.{stray, numbered}

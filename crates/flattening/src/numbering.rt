@@ -6,7 +6,7 @@ ghost use lib.ListN.{length, take, replicate};
 ghost use Rattle.flattening.specs.Flatten.{number};
 ghost use Rattle.flattening.specs.Scope.{leavingOf, hereOf, newOf, openAfter, bodyAfter, rowNotes, listed, told};
 use ops::bytes::wide;
-use ops::reader::mark_of;
+use patch_reader::reader::mark_of;
 
 // Every op has its body, or this op is an End with no open bracket.
 pub enum Numbering {

@@ -7,8 +7,8 @@ use crate::numbering::Numbering;
 use crate::numbering::number_ops;
 use answers::flatten::Flattened;
 use ops::bytes::wide;
-use ops::reader::load;
-use ops::reader::mark_of;
+use patch_reader::reader::load;
+use patch_reader::reader::mark_of;
 
 // How many Function marks there are among ops of these rows.
 pub fn count_marks(kinds: &[u8]) -> usize

@@ -8,11 +8,12 @@ use mir.Val.{Fits}
 use mir.Syntax.{w8}
 use borrow.Author.Tests.{lt-ltb, le-ltb}
 use Rattle.ops.specs.Storage.{fill}
-use Rattle.ops.specs.Patch.{Item, item, kindIn, countIn, placeIn, patchOf, readOf}
+use Rattle.ops.specs.Patch.{Item, item, kindIn, countIn, placeIn, patchOf}
+use Rattle.patch_reader.specs.Answer.{readOf}
 use Rattle.ops.specs.Ops.{opAt, opsOf}
 use Rattle.ops.specs.Ops.Patch.{ops}
 use Rattle.ops.specs.Write.{encodeAll, Below}
-use Rattle.ops.specs.declared.reader.Read.{Read}
+use Rattle.patch_reader.specs.declared.reader.Read.{Read}
 use Rattle.file_laws.proofs.Items.{few-items}
 use Rattle.file_laws.proofs.Loaded as loaded
 use Rattle.file_laws.proofs.Meaning.{ops-are, refused-are}

@@ -13,7 +13,7 @@ use lib.Seq.{take-at}
 use borrow.Author.Tests.{eqb-true, eqb-false, eq-eqb, ne-eqb}
 use Rattle.ops.specs.Bytes.{u32At, u64At, valuesAt, textAt}
 use Rattle.ops.specs.Storage.{fill}
-use Rattle.ops.specs.Kinds.{shape, kindAt}
+use Rattle.kind_table.specs.Kinds.{shape, kindAt}
 use Rattle.ops.specs.Record.{lengthOk, countOf}
 use Rattle.ops.specs.Patch.{Item}
 use Rattle.ops.specs.Ops.{rows, rowAt, opWith, opAt}
@@ -26,7 +26,7 @@ use Rattle.ops.proofs.TextAt.{length-text}
 use Rattle.file_laws.proofs.BytesBack.{text-add}
 use Rattle.file_laws.proofs.Digits.{length-le64}
 use Rattle.ops.proofs.Storage.{placed-then, placed-none}
-use Rattle.ops.proofs.Whole.{tells}
+use Rattle.patch_reader.proofs.Whole.{tells}
 use Rattle.file_laws.proofs.Items.{IsItem}
 use Rattle.file_laws.proofs.Rewritten.{record-again}
 use Rattle.ops.proofs.Clash.{clash}

@@ -9,7 +9,7 @@ use lib.ListN.{length, getD, take}
 use lib.Seq.{take-suc, take-length}
 use borrow.Author.Tests.{eqb-true, eqb-false, eq-eqb, ne-eqb, ltb-false}
 use Rattle.lanes.specs.Int.{intAdd, intGez}
-use Rattle.ops.specs.Kinds.{indexOf}
+use Rattle.kind_table.specs.Kinds.{indexOf}
 use Rattle.ops.specs.Bytes.{u64At, valuesAt}
 use Rattle.ops.specs.Patch.{Item, item, patchOf}
 use Rattle.ops.specs.Ops.{rows, rowAt, opWith, opAt, opCount}

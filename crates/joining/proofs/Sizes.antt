@@ -7,7 +7,7 @@ use mathlib.Core.List.{List, [], _∷_}
 use lib.Dec.{eqb}
 use lib.ListN.{length, length-append}
 use borrow.Author.Tests.{eqb-true}
-use Rattle.ops.specs.Kinds.{shape, kindAt, indexOf}
+use Rattle.kind_table.specs.Kinds.{shape, kindAt, indexOf}
 use Rattle.ops.specs.Ops.{opCount}
 use Rattle.ops.specs.Op.{Op, Plain, kindOf, argOf, valuesOf}
 use Rattle.ops.specs.Op.Plain.{comment, store, move, swap, locate, offset, deref, refer, cell, lane, get, put, peek, poke, alloc, free}

@@ -11,7 +11,7 @@ use crate::write::place_of;
 use crate::write::value_of;
 use crate::write::write_all;
 use answers::join::Joined;
-use ops::reader::load;
+use patch_reader::reader::load;
 
 // Each of the file's ops pushed in turn; how many entries are left.
 fn push_all(

@@ -5,7 +5,7 @@ use Prim.Native.Nat.{ℕ}
 use lib.Dec.{ltb}
 use lib.ListN.{length}
 use Rattle.lanes.specs.Lane.{zipTo, beside}
-use Rattle.ops.specs.declared.reader.Read.{Read}
+use Rattle.patch_reader.specs.declared.reader.Read.{Read}
 use Rattle.bridge.specs.Run.{Ran}
 use Rattle.answers.specs.Check as checking
 use Rattle.answers.specs.declared.check.Verdict.{Verdict}

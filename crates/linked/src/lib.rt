@@ -1,7 +1,8 @@
 // The machine's calls for programs in C or Rust to link. A slice is a pointer and a length. Each call gives back its number, and writes its numbers to
 // the start of `answer`, as many of them as it has room for: number and place first, then what the call gives besides.
 ghost use mathlib.Core.Path.{_≡_};
-ghost use Rattle.ops.specs.Patch.{patchOf, readOf};
+ghost use Rattle.ops.specs.Patch.{patchOf};
+ghost use Rattle.patch_reader.specs.Answer.{readOf};
 ghost use Rattle.machine.specs.Calls.{freshOver};
 ghost use Rattle.patch_check.specs.File.{checkOf};
 ghost use Rattle.joining.specs.Joined.{joinOf};
@@ -17,7 +18,7 @@ mod answer; // what is written to `answer`
 pub extern "C" fn feltcairn_read(bytes: &[u8], answer: &mut [u64]) -> usize
     ensures { λ r. ⌜ given r (now (answer .exit)) ≡ ofRead (readOf (patchOf (now (bytes .entry)))) (now (answer .entry)) ⌝ }
 {
-    let r = ops::reader::read_patch(bytes);
+    let r = patch_reader::reader::read_patch(bytes);
     let number = r.number;
     let told = [number as u64, r.place as u64, r.ops as u64];
     tell(answer, &told);

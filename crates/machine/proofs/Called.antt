@@ -5,8 +5,9 @@ use mathlib.Core.List.{List}
 use Prim.Native.Nat.{ℕ}
 use lib.ListN.{length}
 use borrow.Author.Tests.{eq-eqb, ne-eqb}
-use Rattle.ops.specs.Patch.{patchOf, readOf}
-use Rattle.ops.specs.declared.reader.Read.{Read}
+use Rattle.ops.specs.Patch.{patchOf}
+use Rattle.patch_reader.specs.Answer.{readOf}
+use Rattle.patch_reader.specs.declared.reader.Read.{Read}
 use Rattle.machine_step.specs.Held.{Held, Code}
 use Rattle.bridge.specs.Decoded.{codeOf}
 use Rattle.bridge.specs.Fits.{Fits}

@@ -4,8 +4,9 @@ use mathlib.Core.List.{List, map}
 use Prim.Native.Nat.{ℕ}
 use lib.ListN.{take}
 use Rattle.ops.specs.Storage.{fill}
-use Rattle.ops.specs.Patch.{kindIn, countIn, needIn, placeIn, patchOf, readOf}
-use Rattle.ops.specs.declared.reader.Read.{Read}
+use Rattle.ops.specs.Patch.{kindIn, countIn, needIn, placeIn, patchOf}
+use Rattle.patch_reader.specs.Answer.{readOf}
+use Rattle.patch_reader.specs.declared.reader.Read.{Read}
 use Rattle.file_laws.proofs.Loaded.{part-is}
 use Rattle.machine_step.specs.Held.{code}
 use Rattle.bridge.specs.Decoded.{codeOf}

@@ -184,7 +184,13 @@ impl Machine {
         let mut counts = [0u16; 4096];
         let mut needs = [0u16; 4096];
         let mut places = [0u32; 4096];
-        let read = ops::reader::load(bytes, &mut kinds, &mut counts, &mut needs, &mut places);
+        let read = patch_reader::reader::load(
+            bytes,
+            &mut kinds,
+            &mut counts,
+            &mut needs,
+            &mut places,
+        );
         let number = read.number;
         let n = read.place;
         if number != 0 {
@@ -246,7 +252,13 @@ impl Machine {
         let mut counts = [0u16; 4096];
         let mut needs = [0u16; 4096];
         let mut places = [0u32; 4096];
-        let read = ops::reader::load(bytes, &mut kinds, &mut counts, &mut needs, &mut places);
+        let read = patch_reader::reader::load(
+            bytes,
+            &mut kinds,
+            &mut counts,
+            &mut needs,
+            &mut places,
+        );
         let number = read.number;
         let n = read.place;
         if number != 0 {
@@ -311,7 +323,13 @@ impl Machine {
         let mut needs = [0u16; 4096];
         let mut places = [0u32; 4096];
         let m = Machine::fresh();
-        let read = ops::reader::load(bytes, &mut kinds, &mut counts, &mut needs, &mut places);
+        let read = patch_reader::reader::load(
+            bytes,
+            &mut kinds,
+            &mut counts,
+            &mut needs,
+            &mut places,
+        );
         let number = read.number;
         let n = read.place;
         if number != 0 {

@@ -4,5 +4,3 @@ pub mod ValuesAt
 pub mod TextAt
 pub mod Room
 pub mod AnyFile
-pub mod Whole
-pub mod Reading

@@ -1,7 +1,6 @@
 pub mod Op
 pub mod Storage
 pub mod Bytes
-pub mod Kinds
 pub mod Refusals
 pub mod Record
 pub mod Patch

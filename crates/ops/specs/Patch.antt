@@ -4,14 +4,13 @@ use mathlib.Core.Bool.{cond}
 use mathlib.Core.List.{List, [], _∷_}
 use lib.ListN.{length}
 use lib.Dec.{ltb, eqb}
-use Rattle.ops.specs.Kinds.{runNeed}
+use Rattle.kind_table.specs.Kinds.{runNeed}
 use Rattle.ops.specs.Refusals.{numberOf}
 use Rattle.ops.specs.Record.{recordAt}
 use Rattle.ops.specs.declared.refusals.Refusal.{Refusal}
 use Rattle.ops.specs.declared.refusals.Refusal.the-variants.{TooManyOps, TooManyMarks, FileTooLong}
 use Rattle.ops.specs.declared.records.Record.{Record}
 use Rattle.ops.specs.declared.records.Record.the-variants.{Whole, Bad}
-use Rattle.ops.specs.declared.reader.Read.{Read}
 
 -- an op as it is read: the row of its kind, what its payload counts, and its payload's first byte
 pub record Item : Type 0 where
@@ -72,11 +71,3 @@ walk s (suc left) m p = cond (ltb p (length s)) (onRecord (recordAt s p) p m (wa
 -- "file 65,536 bytes; 4,096 ops", "9 first"
 unfoldable pub patchOf : List ℕ → Loaded
 patchOf s = cond (ltb 65536 (length s)) (stop FileTooLong 0) (walk s 4096 0 0)
-
--- the number and place given back, and how many ops were read: of a good file the place is the op count
-unfoldable pub readOf : Loaded → Read
-readOf l =
-    record { number = l .number; place = cond (eqb (l .number) 0) (length (l .items)) (l .place); ops = length (l .items) }
-
-unfoldable pub refusedAt : Refusal → ℕ → ℕ → Read
-refusedAt r p n = record { number = numberOf r; place = p; ops = n }

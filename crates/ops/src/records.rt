@@ -6,11 +6,11 @@ ghost use lib.ListN.{length};
 ghost use Rattle.ops.specs.Record.{lengthOk, countOf, modeOf, bodyAt, recordAt, recordFrom};
 use crate::bytes::u16_at;
 use crate::bytes::u32_at;
-use crate::kinds::index_of;
-use crate::kinds::kind_at;
 use crate::limits::FILE_BYTES;
 use crate::limits::LANES;
 use crate::refusals::Refusal;
+use kind_table::kinds::index_of;
+use kind_table::kinds::kind_at;
 
 // A whole record: the row of its kind, the first byte and the length of its payload, the lanes, values or bytes
 // that the payload counts, and the byte after it. Or the refusal, and the record's first byte.
@@ -29,7 +29,7 @@ pub enum Record {
 }
 
 // Whether a payload of `len` bytes has a length that its shape may have.
-pub fn length_ok(shape: u8, len: usize) -> bool
+fn length_ok(shape: u8, len: usize) -> bool
     ensures { λ r. ⌜ r ≡ lengthOk shape len ⌝ }
 {
     match shape {

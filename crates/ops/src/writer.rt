@@ -41,7 +41,7 @@ pub fn put_u32(out: &mut [u8], at: usize, n: usize)
 }
 
 // Whether a record with `len` bytes of payload may stand at byte `at` of `size` bytes.
-pub fn has_room(size: usize, at: usize, len: usize) -> bool
+fn has_room(size: usize, at: usize, len: usize) -> bool
     ensures { λ r. ⌜ r ≡ hasRoom size at len ⌝ }
 {
     if FILE_BYTES < at {

@@ -4,8 +4,9 @@ use mathlib.Core.Path.{_≡_, _∙_}
 use mathlib.Core.List.{List, map}
 use lib.ListN.{take}
 use Rattle.ops.specs.Storage.{fill}
-use Rattle.ops.specs.Patch.{kindIn, countIn, patchOf, readOf}
-use Rattle.ops.specs.declared.reader.Read.{Read}
+use Rattle.ops.specs.Patch.{kindIn, countIn, patchOf}
+use Rattle.patch_reader.specs.Answer.{readOf}
+use Rattle.patch_reader.specs.declared.reader.Read.{Read}
 use Rattle.file_laws.proofs.Items.{items-are}
 use Rattle.file_laws.proofs.Loaded as loaded
 use Rattle.file_laws.proofs.Meaning.{ops-are, refused-are}

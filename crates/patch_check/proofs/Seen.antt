@@ -11,10 +11,10 @@ use Rattle.ops.specs.Op.Mark.{up, down, mid, flat}
 use Rattle.ops.specs.Op.Control.{function, call, ret, while, if, else, end}
 use Rattle.ops.specs.Op.Plain.{comment, store, move, swap, locate, offset, deref, refer, cell, lane, get, put, peek, poke, alloc, free}
 use Rattle.ops.specs.Op.Op.{control, set, load, plain}
-use Rattle.ops.specs.Kinds.{need, after}
+use Rattle.kind_table.specs.Kinds.{need, after}
 use Rattle.ops.specs.Patch.{Item, kindIn, countIn}
 use Rattle.ops.specs.Ops.{rows, rowAt, plainWith, opWith, opAt, plainCount, opCount}
-use Rattle.ops.proofs.Whole.{Tells, tells}
+use Rattle.patch_reader.proofs.Whole.{Tells, tells}
 use Rattle.file_laws.proofs.Items.{IsItem, Every}
 use Rattle.file_laws.proofs.Tested.{and-left, and-right, at}
 use Rattle.file_laws.proofs.Rows.{controlRule, plainRule, rule, Row, row-rule}

@@ -3,7 +3,7 @@ use Prim.Native.Nat.{ℕ, suc, _+_, _-_}
 use mathlib.Core.Bool.{cond}
 use mathlib.Core.List.{List, [], _∷_}
 use lib.Dec.{ltb, eqb}
-use Rattle.ops.specs.Kinds.{need, after, kindAt}
+use Rattle.kind_table.specs.Kinds.{need, after, kindAt}
 use Rattle.answers.specs.declared.check.Verdict.{Verdict}
 use Rattle.answers.specs.declared.check.Verdict.the-variants.{Passed, NoOpenEnd, NoOpenElse, FewLanes, NeverClosed}
 

@@ -13,7 +13,7 @@ use crate::rows::opens_of;
 use answers::check::Verdict;
 use ops::bytes::wide;
 use ops::limits::LANES;
-use ops::reader::load;
+use patch_reader::reader::load;
 
 // A count as it is stored.
 pub fn wide_count(n: u16) -> usize

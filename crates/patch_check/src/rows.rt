@@ -2,7 +2,7 @@
 ghost use mathlib.Core.Path.{_≡_};
 ghost use Prim.Native.Nat.{ℕ, _≤_};
 ghost use Rattle.patch_check.specs.Rows.{opensOf, endsOf, elsesOf, needOf, afterOf};
-use ops::kinds::kind_at;
+use kind_table::kinds::kind_at;
 
 // How many brackets it opens: one for Function, While and If.
 pub fn opens_of(k: usize) -> usize

@@ -1,12 +1,12 @@
--- What Put writes: decimal characters digit by digit, how many they are, and where they stand. Assumes nothing.
+-- What Put writes: decimal characters digit by digit, and where they stand. Assumes nothing.
 use mathlib.Core.Path.{_≡_, _∙_, refl, sym, subst}
 use mathlib.Core.List.{List, [], _∷_, _++_}
 use Prim.Native.Nat.{ℕ, zero, suc, _+_, _-_, _/_, _%_, _^_, _≤_, _<_}
 use native.Mathlib.Omega.{arith}
 use lib.Dec.{ltb}
-use lib.ListN.{length, set, drop, length-append, length-set}
+use lib.ListN.{length, set, drop, length-set}
 use lib.Seq.{drop-cons, drop-set-lt, getD-set-same, append-snoc, paste, take-length}
-use borrow.Author.Tests.{lt-ltb, le-ltb, ltb-true, ltb-false}
+use borrow.Author.Tests.{lt-ltb, le-ltb, ltb-true}
 use Rattle.ops.specs.declared.op.Mode.{Mode}
 use Rattle.ops.specs.declared.op.Mode.the-variants.{Char, Int, Other}
 use Rattle.testing_device.specs.Device.{decimal, written, putOf}
@@ -58,22 +58,7 @@ digits-fit (suc (suc (suc k))) n b h =
     let q : suc (suc (suc k)) - 1 ≡ suc (suc k) = omega arith in let q′ : suc (suc k) - 1 ≡ suc k = omega arith in
     (omega arith, rw (q, q′) (fewer (suc k) n (subst (λ (m : ℕ). n < 10 ^ m) q h)))
 
--- a number below 10 ^ k has at most k digits
-pub length-decimal : (j k n : ℕ) → n < 10 ^ suc k → length (decimal j n) ≤ suc k
-unfolding decimal
-length-decimal zero k n h = omega arith
-length-decimal (suc j) zero n h = rw (lt-ltb n 10 (omega arith)) (omega arith)
-length-decimal (suc j) (suc k) n h =
-    byCase (ltb n 10) (λ e. rw e (omega arith))
-    (λ e. let r = length-decimal j k (n / 10) (fewer (suc k) n h) in rw (e, length-append (decimal j (n / 10)) ((48 + n % 10) ∷ [])) (omega arith))
-
--- ---- bounds
-
-pub length-written : (v : ℕ) → length (written v) ≤ 20
-unfolding written
-length-written v =
-    byCase (ltb v (2 ^ 63)) (λ e. let h = ltb-true v (2 ^ 63) e in let r = length-decimal 20 18 v (omega arith) in rw e (omega arith))
-    (λ e. let h = ltb-false v (2 ^ 63) e in let r = length-decimal 20 18 (2 ^ 64 - v) (omega arith) in rw e (omega arith))
+-- ---- words
 
 decimal-words : (k n : ℕ) → Words (decimal k n)
 unfolding decimal
@@ -92,12 +77,6 @@ unfolding putOf
 put-words Char v h = words-cons v [] h no-words
 put-words Int v h = written-words v
 put-words Other v h = no-words
-
-pub length-put : (m : Mode) (v : ℕ) → length (putOf m v) ≤ 20
-unfolding putOf
-length-put Char v = omega arith
-length-put Int v = length-written v
-length-put Other v = omega arith
 
 -- ---- room
 
