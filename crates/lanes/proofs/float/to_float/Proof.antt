@@ -1,9 +1,9 @@
 -- `lanes::float::to_float` meets its contract: on either way to the sign, the float of the magnitude has it. Assumes nothing.
-use mathlib.Core.Path.{_≡_, _∙_, ap, sym}
+use mathlib.Core.Path.{_≡_, _∙_, ap}
 use mathlib.Core.Logic.{inl, inr}
 use Prim.Native.Nat.{ℕ}
 use lib.IntN.{pos, natAbs}
-use lib.Ieee.{Float, binary64, ofInt, neg}
+use lib.Ieee.{binary64, ofInt, neg}
 use Rattle.lanes.specs.Int.{signed}
 use Rattle.lanes.specs.Float.{storedOf}
 use Rattle.lanes.proofs.Floats.{float-low, float-high}

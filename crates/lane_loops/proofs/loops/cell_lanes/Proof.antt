@@ -1,9 +1,9 @@
--- `lanes::loops::cell_lanes` meets its contract: each arm is the loop's own contract at the row that the arm knows. Assumes nothing.
-use borrow.Author.Tests.{ne-eqb}
+-- `lane_loops::loops::cell_lanes` meets its contract: each arm is the loop's own contract at the row that the arm knows. Assumes nothing.
 use borrow.Author.Needs.{needs}
-use Rattle.lanes.specs.Lane.{cellRow}
-use Rattle.lanes.proofs.loops.cell_lanes.Statement.{statement}
-use Rattle.lanes.proofs.loops.cell_lanes.Tie as tie
+use Rattle.lane_loops.proofs.Rest.{cell-rest}
+use Rattle.lane_loops.specs.Rows.{cellRow}
+use Rattle.lane_loops.proofs.loops.cell_lanes.Statement.{statement}
+use Rattle.lane_loops.proofs.loops.cell_lanes.Tie as tie
 
 pub cell-lanes-spec : {M : Type 1} → statement M
 unfolding cellRow
@@ -69,4 +69,4 @@ cell-lanes-spec =
     (λ c. search needs)
     (λ c. rw (c .before .before .before .before .match .keys19) (c .before .before .zip-lanes19 .ensures))
     (λ c. search needs)
-    (λ c. rw (ne-eqb _ _ (c .before .before .before .before .match .rest .0 .0 .0 .0 .0 .0 .0 .0 .0 .0 .0 .0 .0 .0 .0 .0 .0 .0 .1), ne-eqb _ _ (c .before .before .before .before .match .rest .0 .0 .0 .0 .0 .0 .0 .0 .0 .0 .0 .0 .0 .0 .0 .0 .0 .1), ne-eqb _ _ (c .before .before .before .before .match .rest .0 .0 .0 .0 .0 .0 .0 .0 .0 .0 .0 .0 .0 .0 .0 .0 .1), ne-eqb _ _ (c .before .before .before .before .match .rest .0 .0 .0 .0 .0 .0 .0 .0 .0 .0 .0 .0 .0 .0 .0 .1), ne-eqb _ _ (c .before .before .before .before .match .rest .0 .0 .0 .0 .0 .0 .0 .0 .0 .0 .0 .0 .0 .0 .1), ne-eqb _ _ (c .before .before .before .before .match .rest .0 .0 .0 .0 .0 .0 .0 .0 .0 .0 .0 .0 .0 .1), ne-eqb _ _ (c .before .before .before .before .match .rest .0 .0 .0 .0 .0 .0 .0 .0 .0 .0 .0 .0 .1), ne-eqb _ _ (c .before .before .before .before .match .rest .0 .0 .0 .0 .0 .0 .0 .0 .0 .0 .0 .1), ne-eqb _ _ (c .before .before .before .before .match .rest .0 .0 .0 .0 .0 .0 .0 .0 .0 .0 .1), ne-eqb _ _ (c .before .before .before .before .match .rest .0 .0 .0 .0 .0 .0 .0 .0 .0 .1), ne-eqb _ _ (c .before .before .before .before .match .rest .0 .0 .0 .0 .0 .0 .0 .0 .1), ne-eqb _ _ (c .before .before .before .before .match .rest .0 .0 .0 .0 .0 .0 .0 .1), ne-eqb _ _ (c .before .before .before .before .match .rest .0 .0 .0 .0 .0 .0 .1), ne-eqb _ _ (c .before .before .before .before .match .rest .0 .0 .0 .0 .0 .1), ne-eqb _ _ (c .before .before .before .before .match .rest .0 .0 .0 .0 .1), ne-eqb _ _ (c .before .before .before .before .match .rest .0 .0 .0 .1), ne-eqb _ _ (c .before .before .before .before .match .rest .0 .0 .1), ne-eqb _ _ (c .before .before .before .before .match .rest .0 .1), ne-eqb _ _ (c .before .before .before .before .match .rest .1)) (c .before .before .zip-lanes20 .ensures)))
+    (λ c. rw (cell-rest _ (c .before .before .before .before .match .rest)) (c .before .before .zip-lanes20 .ensures)))

@@ -1,13 +1,14 @@
--- `lanes::loops::zip_lanes` meets its contract. The invariant: so many lanes are done. The measure is what is left of n. Assumes nothing.
-use Prim.Native.Nat.{ℕ, _≤_, _-_}
-use mathlib.Core.Path.{_≡_, _∙_, ap}
+-- `lane_loops::loops::zip_lanes` meets its contract. The invariant: so many lanes are done. The measure is what is left of n. Assumes nothing.
+use Prim.Native.Nat.{_≤_, _-_}
+use mathlib.Core.Path.{_≡_}
 use native.Mathlib.Omega.{arith}
 use borrow.Author.Needs.{needs}
 use lib.ListN.{length}
-use Rattle.lanes.specs.Lane.{cellRule, zipTo}
-use Rattle.lanes.proofs.Turns.{zip-again}
-use Rattle.lanes.proofs.loops.zip_lanes.Statement.{statement}
-use Rattle.lanes.proofs.loops.zip_lanes.Tie as tie
+use Rattle.lanes.specs.Lane.{cellRule}
+use Rattle.lane_loops.specs.Loops.{zipTo}
+use Rattle.lane_loops.proofs.Turns.{zip-again}
+use Rattle.lane_loops.proofs.loops.zip_lanes.Statement.{statement}
+use Rattle.lane_loops.proofs.loops.zip_lanes.Tie as tie
 
 abbrev Inv-loop : tie.InvT-loop
 Inv-loop k register₀ cells n op lane₀ register lane = (lane ≤ n) × (length register ≡ length register₀) × (register ≡ zipTo (cellRule op) lane register₀ cells)

@@ -1,18 +1,18 @@
--- What the proofs of the lane loops share: one turn, for any rule. Assumes nothing.
+-- What the proofs of the lane loops share: how long the result is, and one turn, for any rule. Assumes nothing.
 use mathlib.Core.Path.{_≡_, refl, ap}
 use mathlib.Core.List.{List, [], _∷_}
 use Prim.Native.Nat.{ℕ, zero, suc, _+_, _<_}
 use native.Mathlib.Numerals.{add-one}
 use native.Mathlib.Nat.{le-of-suc-le-suc, not-suc-le-zero}
 use lib.ListN.{length, getD, set}
-use Rattle.lanes.specs.Lane.{zipTo, mapTo}
+use Rattle.lane_loops.specs.Loops.{zipTo, mapTo}
 
-pub zip-length : (f : ℕ → ℕ → ℕ) (i : ℕ) (r c : List ℕ) → length (zipTo f i r c) ≡ length r
+pub length-zip : (f : ℕ → ℕ → ℕ) (i : ℕ) (r c : List ℕ) → length (zipTo f i r c) ≡ length r
 unfolding zipTo
-zip-length f zero r c = refl
-zip-length f (suc i) [] c = refl
-zip-length f (suc i) (x ∷ r) [] = refl
-zip-length f (suc i) (x ∷ r) (y ∷ c) = ap suc (zip-length f i r c)
+length-zip f zero r c = refl
+length-zip f (suc i) [] c = refl
+length-zip f (suc i) (x ∷ r) [] = refl
+length-zip f (suc i) (x ∷ r) (y ∷ c) = ap suc (length-zip f i r c)
 
 -- the lane at i, taken by the rule with the cell at i, makes i lanes done i + 1
 pub zip-turn : (f : ℕ → ℕ → ℕ) (i : ℕ) (r c : List ℕ) → i < length r → i < length c
@@ -23,11 +23,11 @@ zip-turn f i (x ∷ r) [] h k = absurd (not-suc-le-zero k)
 zip-turn f zero (x ∷ r) (y ∷ c) h k = refl
 zip-turn f (suc i) (x ∷ r) (y ∷ c) h k = ap (λ (l : List ℕ). f x y ∷ l) (zip-turn f i r c (le-of-suc-le-suc h) (le-of-suc-le-suc k))
 
-pub map-length : (f : ℕ → ℕ) (i : ℕ) (r : List ℕ) → length (mapTo f i r) ≡ length r
+pub length-map : (f : ℕ → ℕ) (i : ℕ) (r : List ℕ) → length (mapTo f i r) ≡ length r
 unfolding mapTo
-map-length f zero r = refl
-map-length f (suc i) [] = refl
-map-length f (suc i) (x ∷ r) = ap suc (map-length f i r)
+length-map f zero r = refl
+length-map f (suc i) [] = refl
+length-map f (suc i) (x ∷ r) = ap suc (length-map f i r)
 
 pub map-turn : (f : ℕ → ℕ) (i : ℕ) (r : List ℕ) → i < length r → set (mapTo f i r) i (f (getD (mapTo f i r) i 0)) ≡ mapTo f (suc i) r
 unfolding mapTo

@@ -1,13 +1,14 @@
--- `lanes::loops::map_lanes` meets its contract. The invariant: i lanes are done. The measure is what is left of n. Assumes nothing.
-use Prim.Native.Nat.{ℕ, _≤_, _-_}
-use mathlib.Core.Path.{_≡_, _∙_, ap}
+-- `lane_loops::loops::map_lanes` meets its contract. The invariant: i lanes are done. The measure is what is left of n. Assumes nothing.
+use Prim.Native.Nat.{_≤_, _-_}
+use mathlib.Core.Path.{_≡_}
 use native.Mathlib.Omega.{arith}
 use borrow.Author.Needs.{needs}
 use lib.ListN.{length}
-use Rattle.lanes.specs.Lane.{laneRule, mapTo}
-use Rattle.lanes.proofs.Turns.{map-again}
-use Rattle.lanes.proofs.loops.map_lanes.Statement.{statement}
-use Rattle.lanes.proofs.loops.map_lanes.Tie as tie
+use Rattle.lanes.specs.Lane.{laneRule}
+use Rattle.lane_loops.specs.Loops.{mapTo}
+use Rattle.lane_loops.proofs.Turns.{map-again}
+use Rattle.lane_loops.proofs.loops.map_lanes.Statement.{statement}
+use Rattle.lane_loops.proofs.loops.map_lanes.Tie as tie
 
 abbrev Inv-loop : tie.InvT-loop
 Inv-loop k register₀ n op i₀ register i = (i ≤ n) × (length register ≡ length register₀) × (register ≡ mapTo (laneRule op) i register₀)

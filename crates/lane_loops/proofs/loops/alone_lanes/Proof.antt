@@ -1,9 +1,9 @@
--- `lanes::loops::alone_lanes` meets its contract: each arm is the loop's own contract at the row that the arm knows. Assumes nothing.
-use borrow.Author.Tests.{ne-eqb}
+-- `lane_loops::loops::alone_lanes` meets its contract: each arm is the loop's own contract at the row that the arm knows. Assumes nothing.
 use borrow.Author.Needs.{needs}
-use Rattle.lanes.specs.Lane.{laneRow}
-use Rattle.lanes.proofs.loops.alone_lanes.Statement.{statement}
-use Rattle.lanes.proofs.loops.alone_lanes.Tie as tie
+use Rattle.lane_loops.proofs.Rest.{lane-rest}
+use Rattle.lane_loops.specs.Rows.{laneRow}
+use Rattle.lane_loops.proofs.loops.alone_lanes.Statement.{statement}
+use Rattle.lane_loops.proofs.loops.alone_lanes.Tie as tie
 
 pub alone-lanes-spec : {M : Type 1} → statement M
 unfolding laneRow
@@ -39,4 +39,4 @@ alone-lanes-spec =
     (λ c. search needs)
     (λ c. rw (c .before .before .before .before .match .keys9) (c .before .before .map-lanes9 .ensures))
     (λ c. search needs)
-    (λ c. rw (ne-eqb _ _ (c .before .before .before .before .match .rest .0 .0 .0 .0 .0 .0 .0 .0 .1), ne-eqb _ _ (c .before .before .before .before .match .rest .0 .0 .0 .0 .0 .0 .0 .1), ne-eqb _ _ (c .before .before .before .before .match .rest .0 .0 .0 .0 .0 .0 .1), ne-eqb _ _ (c .before .before .before .before .match .rest .0 .0 .0 .0 .0 .1), ne-eqb _ _ (c .before .before .before .before .match .rest .0 .0 .0 .0 .1), ne-eqb _ _ (c .before .before .before .before .match .rest .0 .0 .0 .1), ne-eqb _ _ (c .before .before .before .before .match .rest .0 .0 .1), ne-eqb _ _ (c .before .before .before .before .match .rest .0 .1), ne-eqb _ _ (c .before .before .before .before .match .rest .1)) (c .before .before .map-lanes10 .ensures)))
+    (λ c. rw (lane-rest _ (c .before .before .before .before .match .rest)) (c .before .before .map-lanes10 .ensures)))

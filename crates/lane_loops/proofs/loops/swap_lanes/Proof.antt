@@ -1,14 +1,14 @@
--- `lanes::loops::swap_lanes` meets its contract. The invariant: i lanes and i cells are done. The measure is what is left of n. Assumes nothing.
+-- `lane_loops::loops::swap_lanes` meets its contract. The invariant: i lanes and i cells are done. The measure is what is left of n. Assumes nothing.
 use Prim.Native.Nat.{ℕ, _≤_, _-_}
 use mathlib.Core.Path.{_≡_, _∙_, ap}
 use native.Mathlib.Omega.{arith}
 use borrow.Author.Needs.{needs}
 use mathlib.Core.List.{List}
 use lib.ListN.{length, getD}
-use Rattle.lanes.specs.Lane.{zipTo, beside}
-use Rattle.lanes.proofs.Turns.{zip-again, zip-ahead}
-use Rattle.lanes.proofs.loops.swap_lanes.Statement.{statement}
-use Rattle.lanes.proofs.loops.swap_lanes.Tie as tie
+use Rattle.lane_loops.specs.Loops.{zipTo, beside}
+use Rattle.lane_loops.proofs.Turns.{zip-again, zip-ahead}
+use Rattle.lane_loops.proofs.loops.swap_lanes.Statement.{statement}
+use Rattle.lane_loops.proofs.loops.swap_lanes.Tie as tie
 
 abbrev Inv-loop : tie.InvT-loop
 Inv-loop register₀ cells₀ n i₀ register cells i =

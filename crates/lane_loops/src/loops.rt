@@ -3,13 +3,15 @@
 ghost use mathlib.Core.Path.{_≡_};
 ghost use Prim.Native.Nat.{_≤_};
 ghost use lib.ListN.{length};
 ghost use Rattle.lanes.specs.Int.{intAdd};
-ghost use Rattle.lanes.specs.Lane.{cellRow, laneRow, cellRule, laneRule, zipTo, mapTo, beside};
-use crate::int::int_offset;
-use crate::lane::cell_row;
-use crate::lane::cell_rule;
-use crate::lane::lane_row;
-use crate::lane::lane_rule;
+ghost use Rattle.lanes.specs.Lane.{cellRule, laneRule};
+ghost use Rattle.lane_loops.specs.Rows.{cellRow, laneRow};
+ghost use Rattle.lane_loops.specs.Loops.{zipTo, mapTo, beside};
+use crate::rows::cell_row;
+use crate::rows::lane_row;
+use lanes::lane::CellOp;
+use lanes::lane::cell_rule;
+use lanes::lane::lane_rule;
 
 // Each of the first n lanes by an op with the cell beside it.
 fn zip_lanes(k: u8, register: &mut [u64], cells: &[u64], n: usize)
@@ -94,7 +96,7 @@ pub fn offset_lanes(by: u64, register: &mut [u64], n: usize)
 {
     let mut i = 0;
     while i < n {
-        register[i] = int_offset(register[i], by);
+        register[i] = cell_rule(CellOp::Add, register[i], by);
         i += 1;
     }
 }

@@ -1,13 +1,13 @@
--- `lanes::loops::copy_lanes` meets its contract. The invariant: i lanes are done. The measure is what is left of n. Assumes nothing.
+-- `lane_loops::loops::copy_lanes` meets its contract. The invariant: i lanes are done. The measure is what is left of n. Assumes nothing.
 use Prim.Native.Nat.{ℕ, _≤_, _-_}
 use mathlib.Core.Path.{_≡_, refl, _∙_, ap}
 use native.Mathlib.Omega.{arith}
 use borrow.Author.Needs.{needs}
 use lib.ListN.{length}
-use Rattle.lanes.specs.Lane.{zipTo, beside}
-use Rattle.lanes.proofs.Turns.{zip-again}
-use Rattle.lanes.proofs.loops.copy_lanes.Statement.{statement}
-use Rattle.lanes.proofs.loops.copy_lanes.Tie as tie
+use Rattle.lane_loops.specs.Loops.{zipTo, beside}
+use Rattle.lane_loops.proofs.Turns.{zip-again}
+use Rattle.lane_loops.proofs.loops.copy_lanes.Statement.{statement}
+use Rattle.lane_loops.proofs.loops.copy_lanes.Tie as tie
 
 abbrev Inv-loop : tie.InvT-loop
 Inv-loop to₀ from n i₀ to i = (i ≤ n) × (length to ≡ length to₀) × (to ≡ zipTo beside i to₀ from)
