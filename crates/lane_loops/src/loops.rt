@@ -123,9 +123,9 @@ pub fn copy_lanes(to: &mut [u64], from: &[u64], n: usize)
     requires { ⌜ n ≤ length (now from) ⌝ }
     ensures { λ _. ⌜ now (to .exit) ≡ zipTo beside n (now (to .entry)) (now (from .entry)) ⌝ }
 {
-    let mut i = 0;
-    while i < n {
-        to[i] = from[i];
-        i += 1;
+    let mut at = 0;
+    while at < n {
+        to[at] = from[at];
+        at += 1;
     }
 }
