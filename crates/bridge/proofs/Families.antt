@@ -7,7 +7,7 @@ use Rattle.lanes.specs.declared.lane.CellOp.{CellOp}
 use Rattle.lanes.specs.declared.lane.CellOp.the-variants.{Index, BitwiseNand, BitwiseAnd, BitwiseOr, BitwiseXor, LeftShift, LogicalRightShift, ArithmeticRightShift, And, Or, Add, Sub, Mul, Div, Rem, FloatAdd, FloatSub, FloatMul, FloatDiv, FloatRem}
 use Rattle.lanes.specs.declared.lane.LaneOp.{LaneOp}
 use Rattle.lanes.specs.declared.lane.LaneOp.the-variants.{BitwiseNot, Not, Neg, Inc, Dec, IsNonNegative, ToInt, ToFloat, FloatNeg, FloatIsNonNegative}
-use Rattle.lanes.specs.Lane.{cellRow, laneRow}
+use Rattle.lane_loops.specs.Rows.{cellRow, laneRow}
 use Rattle.kind_table.specs.Kinds.{indexOf}
 use Rattle.ops.specs.Op.{Control, Plain, Sort, Op, mark, isFunction, isWhile, kindOf, controlKind, plainKind, setKind, cellKind, laneKind}
 use Rattle.ops.specs.Op.Control.{function, call, ret, while, if, else, end}

@@ -10,7 +10,8 @@ use lib.ListN.{length, take, drop, length-drop, take-append-drop}
 use lib.Seq.{length-take-le, take-take}
 use borrow.Author.Tests.{lt-ltb, ltb-false}
 use Rattle.lanes.specs.Int.{intAdd}
-use Rattle.lanes.specs.Lane.{zipTo, mapTo, beside, cellRule, laneRule}
+use Rattle.lanes.specs.Lane.{cellRule, laneRule}
+use Rattle.lane_loops.specs.Loops.{zipTo, mapTo, beside}
 use Rattle.lanes.specs.declared.lane.CellOp.{CellOp}
 use Rattle.lanes.specs.declared.lane.LaneOp.{LaneOp}
 use Rattle.ops.specs.Op.Plain.{cell, lane, swap, offset}
@@ -18,7 +19,7 @@ use Rattle.testing_device.proofs.Words.{byCase}
 use Rattle.machine_model.specs.State.{Given, on, withReg, withTape}
 use Rattle.machine_model.specs.Step.{act, bar, cells, stored}
 use Rattle.machine_model.specs.Step.Outcome.{next}
-use Rattle.machine_model.proofs.Kept.{length-zip, length-map}
+use Rattle.lane_loops.proofs.Turns.{length-zip, length-map}
 use Rattle.machine_ops.specs.Place as m
 use Rattle.machine_ops.specs.Tape.{copied}
 use Rattle.machine_ops.specs.Lane.{cellOf, swapOf, aloneOf, offsetOf}

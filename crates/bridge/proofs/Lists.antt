@@ -5,7 +5,7 @@ use Prim.Native.Nat.{ℕ, zero, suc, _+_, _≤_, _<_}
 use native.Mathlib.Omega.{arith}
 use lib.ListN.{length, set, take, drop, length-append, length-set, length-drop, take-append-drop}
 use lib.Seq.{length-take-le, drop-at, drop-set-lt, drop-drop}
-use Rattle.lanes.specs.Lane.{zipTo, mapTo, beside}
+use Rattle.lane_loops.specs.Loops.{zipTo, mapTo, beside}
 use Rattle.ops.specs.Bytes.{valuesAt}
 use Rattle.ops.specs.Storage.{fill}
 use Rattle.machine_ops.specs.Tape.{copied}

@@ -9,7 +9,7 @@ use lib.ListN.{length, getD, take, drop, length-drop}
 use lib.ListN
 use lib.Seq.{take-at, length-take-le, getD-take, take-take, take-set-lt}
 use borrow.Author.Tests.{lt-ltb, le-ltb, ltb-true, ltb-false, leb-true, leb-false, le-leb, lt-leb, eqb-true, eqb-false}
-use Rattle.lanes.specs.Lane.{zipTo, beside}
+use Rattle.lane_loops.specs.Loops.{zipTo, beside}
 use Rattle.ops.specs.Bytes.{valuesAt}
 use Rattle.ops.specs.Storage.{fill}
 use Rattle.ops.specs.Op.{Sort}

@@ -30,7 +30,7 @@ use Rattle.machine_model.proofs.Each.{each-end, each-take, each-at}
 use Rattle.machine_model.proofs.Scans.{clash, marks-at, kth-is}
 use Rattle.machine_model.proofs.Table.{each-enter}
 use Rattle.machine_model.proofs.Outcomes.{or-right, Leads, run-keeps}
-use Rattle.machine_model.proofs.Kept.{length-map, length-zip}
+use Rattle.lane_loops.proofs.Turns.{length-map, length-zip}
 use Rattle.patch_check.specs.Rules.{asksOf, asks, leaves, known, KeepsRules}
 use Rattle.check_laws.specs.Reached.{given, Reached}
 use Rattle.check_laws.specs.Reached.Reached.{at-first, run-on}

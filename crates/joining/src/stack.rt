@@ -4,9 +4,12 @@ ghost use mathlib.Core.Path.{_≡_};
 ghost use mathlib.Core.List.{_∷_};
 ghost use Prim.Native.Nat.{ℕ, _+_, _<_, _≤_};
 ghost use lib.ListN.{length, getD};
+ghost use Rattle.lanes.specs.Int.{intAdd};
 ghost use Rattle.joining.specs.Stack.{cells, tests, meet, entry, stack, movedOn, pushOn};
-use lanes::int::int_add;
-use lanes::int::int_gez;
+use lanes::lane::CellOp;
+use lanes::lane::LaneOp;
+use lanes::lane::cell_rule;
+use lanes::lane::lane_rule;
 
 // What the last op and the new one make of each other: the new one is pushed, or left out; the last one is taken off, and the new one
 // is pushed again, a set of this value is, or the last one is after the new one; or a move by this value stands for both.
@@ -18,6 +21,13 @@ pub enum Met {
     Test(u64),
     Under,
     Sum(u64),
+}
+
+// Two moves as one.
+fn total(a: u64, b: u64) -> u64
+    ensures { λ r. ⌜ r ≡ intAdd a b ⌝ }
+{
+    cell_rule(CellOp::Add, a, b)
 }
 
 // Store and Load after a cell op of the same count.
@@ -49,7 +59,7 @@ pub fn test(yk: u8, yn: u16, yv: u64, xn: u16) -> Met
     if yn != 1 {
         return Met::Push;
     }
-    let v = int_gez(yv);
+    let v = lane_rule(LaneOp::IsNonNegative, yv);
     Met::Test(v)
 }
 
@@ -61,7 +71,7 @@ pub fn meets(yk: u8, yn: u16, yv: u64, xk: u8, xn: u16, xv: u64) -> Met
         if yk != 11 {
             return Met::Push;
         }
-        let v = int_add(yv, xv);
+        let v = total(yv, xv);
         if v == 0 {
             return Met::Pop;
         }
@@ -158,7 +168,7 @@ pub fn put_move(
     if k != 11 {
         return put(ops, values, n, i, v);
     }
-    let sum = int_add(values[top], v);
+    let sum = total(values[top], v);
     if sum == 0 {
         return top;
     }

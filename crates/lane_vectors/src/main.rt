@@ -2,43 +2,45 @@
 // worked out apart from this code, by tools/lane_vectors.py.
 mod vectors; // vectors.rt: the kinds and the patterns
 
-use lanes::float;
-use lanes::int;
+use lanes::lane::CellOp;
+use lanes::lane::LaneOp;
+use lanes::lane::cell_rule;
+use lanes::lane::lane_rule;
 
 // What the op of a kind gives of a lane and the cell beside it. The ops that work a lane alone do not look at the cell.
 fn op(kind: u64, a: u64, b: u64) -> u64 {
     match kind {
-        15 => int::int_index(a, b),
-        16 => int::int_offset(a, b),
-        17 => int::bit_nand(a, b),
-        18 => int::bit_and(a, b),
-        19 => int::bit_or(a, b),
-        20 => int::bit_xor(a, b),
-        21 => int::bit_not(a),
-        22 => int::int_shl(a, b),
-        23 => int::int_shr(a, b),
-        24 => int::int_sar(a, b),
-        25 => int::bool_and(a, b),
-        26 => int::bool_or(a, b),
-        27 => int::bool_not(a),
-        28 => int::int_add(a, b),
-        29 => int::int_sub(a, b),
-        30 => int::int_mul(a, b),
-        31 => int::int_div(a, b),
-        32 => int::int_rem(a, b),
-        33 => int::int_neg(a),
-        34 => int::int_inc(a),
-        35 => int::int_dec(a),
-        37 => int::int_gez(a),
-        259 => float::to_int(a),
-        260 => float::to_float(a),
-        261 => float::float_add(a, b),
-        262 => float::float_sub(a, b),
-        263 => float::float_mul(a, b),
-        264 => float::float_div(a, b),
-        265 => float::float_rem(a, b),
-        266 => float::float_neg(a),
-        267 => float::float_gez(a),
+        15 => cell_rule(CellOp::Index, a, b),
+        16 => cell_rule(CellOp::Add, a, b),
+        17 => cell_rule(CellOp::BitwiseNand, a, b),
+        18 => cell_rule(CellOp::BitwiseAnd, a, b),
+        19 => cell_rule(CellOp::BitwiseOr, a, b),
+        20 => cell_rule(CellOp::BitwiseXor, a, b),
+        21 => lane_rule(LaneOp::BitwiseNot, a),
+        22 => cell_rule(CellOp::LeftShift, a, b),
+        23 => cell_rule(CellOp::LogicalRightShift, a, b),
+        24 => cell_rule(CellOp::ArithmeticRightShift, a, b),
+        25 => cell_rule(CellOp::And, a, b),
+        26 => cell_rule(CellOp::Or, a, b),
+        27 => lane_rule(LaneOp::Not, a),
+        28 => cell_rule(CellOp::Add, a, b),
+        29 => cell_rule(CellOp::Sub, a, b),
+        30 => cell_rule(CellOp::Mul, a, b),
+        31 => cell_rule(CellOp::Div, a, b),
+        32 => cell_rule(CellOp::Rem, a, b),
+        33 => lane_rule(LaneOp::Neg, a),
+        34 => lane_rule(LaneOp::Inc, a),
+        35 => lane_rule(LaneOp::Dec, a),
+        37 => lane_rule(LaneOp::IsNonNegative, a),
+        259 => lane_rule(LaneOp::ToInt, a),
+        260 => lane_rule(LaneOp::ToFloat, a),
+        261 => cell_rule(CellOp::FloatAdd, a, b),
+        262 => cell_rule(CellOp::FloatSub, a, b),
+        263 => cell_rule(CellOp::FloatMul, a, b),
+        264 => cell_rule(CellOp::FloatDiv, a, b),
+        265 => cell_rule(CellOp::FloatRem, a, b),
+        266 => lane_rule(LaneOp::FloatNeg, a),
+        267 => lane_rule(LaneOp::FloatIsNonNegative, a),
         _ => a,
     }
 }

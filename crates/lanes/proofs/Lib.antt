@@ -3,6 +3,5 @@ pub mod Bits
 pub mod Floats
 pub mod Values
 pub mod Rem
-pub mod Turns
 pub mod Below
 pub mod Cases

@@ -1,8 +1,5 @@
--- Which rule each op has for a lane, and a rule over the first n lanes. Assumes nothing.
-use Prim.Native.Nat.{ℕ, zero, suc}
-use mathlib.Core.Bool.{cond}
-use lib.Dec.{eqb}
-use mathlib.Core.List.{List, [], _∷_}
+-- Which rule each op has for a lane. Assumes nothing.
+use Prim.Native.Nat.{ℕ}
 use Rattle.lanes.specs.declared.lane.CellOp.{CellOp}
 use Rattle.lanes.specs.declared.lane.CellOp.the-variants.{Index, BitwiseNand, BitwiseAnd, BitwiseOr, BitwiseXor, LeftShift, LogicalRightShift, ArithmeticRightShift, And, Or, Add, Sub, Mul, Div, Rem, FloatAdd, FloatSub, FloatMul, FloatDiv, FloatRem}
 use Rattle.lanes.specs.declared.lane.LaneOp.{LaneOp}
@@ -10,19 +7,6 @@ use Rattle.lanes.specs.declared.lane.LaneOp.the-variants.{BitwiseNot, No
 use lib.Ieee as ieee
 use Rattle.lanes.specs.Int.{bitwise, intAdd, intSub, intMul, intNeg, intInc, intDec, intDiv, intRem, intShl, intShr, intSar, bitAnd, bitNand, bitOr, bitXor, bitNot, boolAnd, boolOr, boolNot, intGez}
 use Rattle.lanes.specs.Float.{floatAdd, floatSub, floatMul, floatDiv, floatRem, floatNeg, floatGez, toInt, toFloat}
-
--- the op of a row of the table of kinds; the last for every other row
-unfoldable pub cellRow : ℕ → CellOp
-cellRow k =
-    cond (eqb k 15) Index (cond (eqb k 17) BitwiseNand (cond (eqb k 18) BitwiseAnd (cond (eqb k 19) BitwiseOr (cond (eqb k 20) BitwiseXor
-    (cond (eqb k 22) LeftShift (cond (eqb k 23) LogicalRightShift (cond (eqb k 24) ArithmeticRightShift (cond (eqb k 25) And
-    (cond (eqb k 26) Or (cond (eqb k 28) Add (cond (eqb k 29) Sub (cond (eqb k 30) Mul (cond (eqb k 31) Div (cond (eqb k 32) Rem
-    (cond (eqb k 45) FloatAdd (cond (eqb k 46) FloatSub (cond (eqb k 47) FloatMul (cond (eqb k 48) FloatDiv FloatRem))))))))))))))))))
-
-unfoldable pub laneRow : ℕ → LaneOp
-laneRow k =
-    cond (eqb k 21) BitwiseNot (cond (eqb k 27) Not (cond (eqb k 33) Neg (cond (eqb k 34) Inc (cond (eqb k 35) Dec
-    (cond (eqb k 37) IsNonNegative (cond (eqb k 43) ToInt (cond (eqb k 44) ToFloat (cond (eqb k 50) FloatNeg FloatIsNonNegative))))))))
 
 -- the lane a with the cell b beside it
 unfoldable pub cellRule : CellOp → ℕ → ℕ → ℕ
@@ -61,20 +45,3 @@ laneRule ToInt a = toInt a
 laneRule ToFloat a = toFloat a
 laneRule FloatNeg a = floatNeg a
 laneRule FloatIsNonNegative a = floatGez a
-
--- the first n lanes, each by the rule f on it and the cell beside it; the others as they were
-unfoldable pub zipTo : (ℕ → ℕ → ℕ) → ℕ → List ℕ → List ℕ → List ℕ
-zipTo f zero r c = r
-zipTo f (suc n) [] c = []
-zipTo f (suc n) (x ∷ r) [] = x ∷ r
-zipTo f (suc n) (x ∷ r) (y ∷ c) = f x y ∷ zipTo f n r c
-
--- the first n lanes, each by the rule f on it alone
-unfoldable pub mapTo : (ℕ → ℕ) → ℕ → List ℕ → List ℕ
-mapTo f zero r = r
-mapTo f (suc n) [] = []
-mapTo f (suc n) (x ∷ r) = f x ∷ mapTo f n r
-
--- what stands beside: the rule of a copy
-abbrev pub beside : ℕ → ℕ → ℕ
-beside a b = b

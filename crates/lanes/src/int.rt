@@ -42,12 +42,6 @@ pub fn wrapping_mul(a: u64, b: u64) -> u64
     std::num::wrapping_add_u64(low, cross % 0x1_0000_0000 * 0x1_0000_0000)
 }
 
-pub fn int_offset(a: u64, b: u64) -> u64
-    ensures { λ r. ⌜ r ≡ intAdd a b ⌝ }
-{
-    int_add(a, b)
-}
-
 pub fn int_index(a: u64, b: u64) -> u64
     ensures { λ r. ⌜ r ≡ intAdd a b ⌝ }
 {

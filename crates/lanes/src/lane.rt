@@ -1,6 +1,6 @@
 // The lane ops, by what they look at, in the order of the kinds, and the rule of each on one lane.
 ghost use mathlib.Core.Path.{_≡_};
-ghost use Rattle.lanes.specs.Lane.{cellRow, laneRow, cellRule, laneRule};
+ghost use Rattle.lanes.specs.Lane.{cellRule, laneRule};
 use crate::float::float_add;
 use crate::float::float_div;
 use crate::float::float_gez;
@@ -68,51 +68,6 @@ pub enum LaneOp {
     ToFloat,
     FloatNeg,
     FloatIsNonNegative,
-}
-
-// The op of a row of the table of kinds.
-pub fn cell_row(k: u8) -> CellOp
-    ensures { λ r. ⌜ r ≡ cellRow k ⌝ }
-{
-    match k {
-        15 => CellOp::Index,
-        17 => CellOp::BitwiseNand,
-        18 => CellOp::BitwiseAnd,
-        19 => CellOp::BitwiseOr,
-        20 => CellOp::BitwiseXor,
-        22 => CellOp::LeftShift,
-        23 => CellOp::LogicalRightShift,
-        24 => CellOp::ArithmeticRightShift,
-        25 => CellOp::And,
-        26 => CellOp::Or,
-        28 => CellOp::Add,
-        29 => CellOp::Sub,
-        30 => CellOp::Mul,
-        31 => CellOp::Div,
-        32 => CellOp::Rem,
-        45 => CellOp::FloatAdd,
-        46 => CellOp::FloatSub,
-        47 => CellOp::FloatMul,
-        48 => CellOp::FloatDiv,
-        _ => CellOp::FloatRem,
-    }
-}
-
-pub fn lane_row(k: u8) -> LaneOp
-    ensures { λ r. ⌜ r ≡ laneRow k ⌝ }
-{
-    match k {
-        21 => LaneOp::BitwiseNot,
-        27 => LaneOp::Not,
-        33 => LaneOp::Neg,
-        34 => LaneOp::Inc,
-        35 => LaneOp::Dec,
-        37 => LaneOp::IsNonNegative,
-        43 => LaneOp::ToInt,
-        44 => LaneOp::ToFloat,
-        50 => LaneOp::FloatNeg,
-        _ => LaneOp::FloatIsNonNegative,
-    }
 }
 
 // The lane a by an op with the cell b beside it.

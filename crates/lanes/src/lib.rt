@@ -1,5 +1,4 @@
 // Lane arithmetic on 64-bit patterns: the lane arms of the Rust's `step`.
-pub mod int; // int.rt: a lane as an integer
-pub mod float; // float.rt: a lane as a float
+mod int; // int.rt: a lane as an integer
+mod float; // float.rt: a lane as a float
 pub mod lane; // lane.rt: the lane ops, and the rule of each
-pub mod loops; // loops.rt: the rules over the first n lanes of lent slices

@@ -4,7 +4,7 @@ use mathlib.Core.List.{List, [], _∷_}
 use Prim.Native.Nat.{ℕ}
 use lib.Dec.{ltb}
 use lib.ListN.{length}
-use Rattle.lanes.specs.Lane.{zipTo, beside}
+use Rattle.lane_loops.specs.Loops.{zipTo, beside}
 use Rattle.patch_reader.specs.declared.reader.Read.{Read}
 use Rattle.bridge.specs.Run.{Ran}
 use Rattle.answers.specs.Check as checking

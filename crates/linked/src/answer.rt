@@ -9,8 +9,8 @@ pub fn tell(answer: &mut [u64], values: &[u64])
     let room = answer.len();
     let n = values.len();
     if room < n {
-        lanes::loops::copy_lanes(answer, values, room);
+        lane_loops::loops::copy_lanes(answer, values, room);
         return;
     }
-    lanes::loops::copy_lanes(answer, values, n);
+    lane_loops::loops::copy_lanes(answer, values, n);
 }

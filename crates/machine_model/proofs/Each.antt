@@ -4,7 +4,7 @@ use native.Mathlib.Nat.{not-suc-le-zero, le-of-suc-le-suc}
 use mathlib.Core.List.{List, [], _∷_, _++_}
 use lib.ListN.{length, take, drop, getD, replicate}
 use lib.ListN
-use Rattle.lanes.specs.Lane.{zipTo, mapTo}
+use Rattle.lane_loops.specs.Loops.{zipTo, mapTo}
 use Rattle.machine_model.specs.Formed.{Each}
 
 module _ (P : ℕ → Type 0) where

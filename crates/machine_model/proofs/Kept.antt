@@ -10,7 +10,8 @@ use lib.Dec.{leb, ltb}
 use lib.ListN.{length, take, drop, getD, length-take, length-drop, length-append, length-set, length-replicate}
 use lib.ListN
 use Rattle.lanes.specs.Int.{intAdd}
-use Rattle.lanes.specs.Lane.{cellRule, laneRule, zipTo, mapTo}
+use Rattle.lanes.specs.Lane.{cellRule, laneRule}
+use Rattle.lane_loops.proofs.Turns.{length-zip, length-map}
 use Rattle.ops.specs.Op.{Op, Control, Plain, isFunction, isWhile}
 use Rattle.ops.specs.Op.Control.{function, call, ret, while, if, else, end}
 use Rattle.ops.specs.Op.Plain.{comment, store, move, swap, locate, offset, deref, refer, cell, lane, get, put, peek, poke, alloc, free}
@@ -35,19 +36,6 @@ use Rattle.machine_model.proofs.Outcomes.{or-right, Leads, bar-leads, p
 use Rattle.machine_model.proofs.Outcomes.Leads.{ended, stopped, goes}
 
 -- ---- lengths
-
-pub length-map : (f : ℕ → ℕ) (n : ℕ) (xs : List ℕ) → length (mapTo f n xs) ≡ length xs
-unfolding mapTo
-length-map f zero xs = refl
-length-map f (suc n) [] = refl
-length-map f (suc n) (x ∷ xs) = ap suc (length-map f n xs)
-
-pub length-zip : (f : ℕ → ℕ → ℕ) (n : ℕ) (xs ys : List ℕ) → length (zipTo f n xs ys) ≡ length xs
-unfolding zipTo
-length-zip f zero xs ys = refl
-length-zip f (suc n) [] ys = refl
-length-zip f (suc n) (x ∷ xs) [] = refl
-length-zip f (suc n) (x ∷ xs) (y ∷ ys) = ap suc (length-zip f n xs ys)
 
 cover-short : (p n : ℕ) → p ≤ farthest + lanes → n ≤ longest → cover p n ≤ longest
 cover-short p n h l = by (ltb p n) refl

@@ -7,7 +7,8 @@ use mathlib.Core.Option.{Option, none, some}
 use lib.Dec.{leb, ltb, eqb}
 use lib.ListN.{length, take, drop, getD}
 use Rattle.lanes.specs.Int.{intAdd}
-use Rattle.lanes.specs.Lane.{cellRule, laneRule, zipTo, mapTo}
+use Rattle.lanes.specs.Lane.{cellRule, laneRule}
+use Rattle.lane_loops.specs.Loops.{zipTo, mapTo}
 use Rattle.ops.specs.Op.{Op, Control, Plain, needs, isWhile}
 use Rattle.ops.specs.Op.Control.{function, call, ret, while, if, else, end}
 use Rattle.ops.specs.Op.Plain.{comment, store, move, swap, locate, offset, deref, refer, cell, lane, get, put, peek, poke, alloc, free}

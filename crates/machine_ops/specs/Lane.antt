@@ -4,7 +4,8 @@ use Prim.Native.Nat.{ℕ, _+_}
 use lib.ListN.{length, drop}
 use lib.Dec.{ltb, eqb}
 use Rattle.lanes.specs.Int.{intAdd}
-use Rattle.lanes.specs.Lane.{zipTo, mapTo, beside, cellRule, laneRule}
+use Rattle.lanes.specs.Lane.{cellRule, laneRule}
+use Rattle.lane_loops.specs.Loops.{zipTo, mapTo, beside}
 use Rattle.lanes.specs.declared.lane.CellOp.{CellOp}
 use Rattle.lanes.specs.declared.lane.LaneOp.{LaneOp}
 use Rattle.machine_ops.specs.Place.{pick, next, hop, Laned, laned, Swapped, swapped}

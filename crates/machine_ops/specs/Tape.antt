@@ -3,7 +3,7 @@ use mathlib.Core.List.{List, _++_}
 use Prim.Native.Nat.{ℕ, _+_, _-_, _*_, _/_, _^_}
 use lib.ListN.{length, getD, set, take, drop}
 use lib.Dec.{leb, ltb, eqb}
-use Rattle.lanes.specs.Lane.{zipTo, beside}
+use Rattle.lane_loops.specs.Loops.{zipTo, beside}
 use Rattle.ops.specs.Bytes.{u64At, valuesAt}
 use Rattle.ops.specs.Storage.{fill}
 use Rattle.machine_ops.specs.Place.{pick, atPointer, ofLength, ofLanes, ofSaved, next, hop, Laned, laned, Taped, taped}

@@ -2,7 +2,7 @@
 ghost use mathlib.Core.Path.{_≡_};
 ghost use Prim.Native.Nat.{ℕ, _+_, _≤_, _<_};
 ghost use lib.ListN.{length};
-ghost use Rattle.lanes.specs.Lane.{cellRow, laneRow};
+ghost use Rattle.lane_loops.specs.Rows.{cellRow, laneRow};
 ghost use Rattle.machine_ops.specs.Place.{laned, swapped};
 ghost use Rattle.machine_ops.specs.Lane.{cellOf, swapOf, aloneOf, offsetOf};
 use crate::place::Hop;
@@ -24,7 +24,7 @@ impl Place {
         if tape.len() < at + n {
             return self.refuse(23);
         }
-        lanes::loops::cell_lanes(k, register, &tape[at..], n);
+        lane_loops::loops::cell_lanes(k, register, &tape[at..], n);
         self.next()
     }
 
@@ -43,7 +43,7 @@ impl Place {
         if tape.len() < at + n {
             return self.refuse(23);
         }
-        lanes::loops::swap_lanes(register, &mut tape[at..], n);
+        lane_loops::loops::swap_lanes(register, &mut tape[at..], n);
         self.next()
     }
 
@@ -51,7 +51,7 @@ impl Place {
         requires { ⌜ (self .position < 4096) × (n ≤ 1024) × (1024 ≤ length (now register)) ⌝ }
         ensures { λ r. ⌜ laned r (now (register .exit)) ≡ aloneOf (laneRow k) n self (now (register .entry)) ⌝ }
     {
-        lanes::loops::alone_lanes(k, register, n);
+        lane_loops::loops::alone_lanes(k, register, n);
         self.next()
     }
 
@@ -59,7 +59,7 @@ impl Place {
         requires { ⌜ (self .position < 4096) × (n ≤ 1024) × (1024 ≤ length (now register)) ⌝ }
         ensures { λ r. ⌜ laned r (now (register .exit)) ≡ offsetOf v n self (now (register .entry)) ⌝ }
     {
-        lanes::loops::offset_lanes(v, register, n);
+        lane_loops::loops::offset_lanes(v, register, n);
         self.next()
     }
 }

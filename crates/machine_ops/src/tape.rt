@@ -67,7 +67,7 @@ impl Place {
         if tape.len() < at + n {
             return self.refuse(23);
         }
-        lanes::loops::copy_lanes(register, &tape[at..], n);
+        lane_loops::loops::copy_lanes(register, &tape[at..], n);
         self.length = grow(l, at + n);
         self.lanes = n;
         self.next()
@@ -86,7 +86,7 @@ impl Place {
         if tape.len() < at + n {
             return self.refuse(23);
         }
-        lanes::loops::copy_lanes(&mut tape[at..], register, n);
+        lane_loops::loops::copy_lanes(&mut tape[at..], register, n);
         self.length = grow(l, at + n);
         self.next()
     }

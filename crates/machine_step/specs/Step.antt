@@ -3,7 +3,7 @@ use mathlib.Core.List.{List}
 use Prim.Native.Nat.{ℕ}
 use lib.ListN.{getD}
 use lib.Dec.{ltb, eqb}
-use Rattle.lanes.specs.Lane.{cellRow, laneRow}
+use Rattle.lane_loops.specs.Rows.{cellRow, laneRow}
 use Rattle.ops.specs.Bytes.{u64At}
 use Rattle.machine_ops.specs.Place.{pick, hop}
 use Rattle.machine_ops.specs.Control.{controlOf}

@@ -11,11 +11,11 @@ returns c = simp (eq-eqb _ _ (c .before .if1 .taken), ne-eqb _ _ (c .if2 .taken)
 
 returns-2 : tie.Need-returns-2
 unfolding meet
-returns-2 c = simp (eq-eqb _ _ (c .before .before .before .if1 .taken), eq-eqb _ _ (c .before .before .if2 .left), eq-eqb _ _ (c .if3 .taken), ← (c .before .int-add .ensures))
+returns-2 c = simp (eq-eqb _ _ (c .before .before .before .if1 .taken), eq-eqb _ _ (c .before .before .if2 .left), eq-eqb _ _ (c .if3 .taken), ← (c .before .total .ensures))
 
 returns-3 : tie.Need-returns-3
 unfolding meet
-returns-3 c = simp (eq-eqb _ _ (c .before .before .before .if1 .taken), eq-eqb _ _ (c .before .before .if2 .left), ne-eqb _ _ (c .if3 .left), ← (c .before .int-add .ensures))
+returns-3 c = simp (eq-eqb _ _ (c .before .before .before .if1 .taken), eq-eqb _ _ (c .before .before .if2 .left), ne-eqb _ _ (c .if3 .left), ← (c .before .total .ensures))
 
 returns-4 : tie.Need-returns-4
 unfolding meet
