@@ -1,4 +1,4 @@
-// Ops and the patch file.
+// Ops, and their records in a patch file.
 pub mod op; // how Get reads and how Put writes
 pub mod limits; // the last file length, op count, mark count and lane count that are accepted
 pub mod bytes; // little-endian numbers

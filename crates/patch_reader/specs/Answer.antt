@@ -1,4 +1,4 @@
--- What reading a file answers.
+-- What reading a file answers. Assumes nothing.
 use Prim.Native.Nat.{ℕ}
 use mathlib.Core.Bool.{cond}
 use lib.ListN.{length}

@@ -1,4 +1,4 @@
-// The record reader: it holds the patch bytes and its place. What a record is, `records` decides; these functions take
+// The record reader: it holds the patch bytes and its place. What a record is, `ops::records` decides; these functions take
 // the reader apart and hand it on, and are proved by hand.
 ghost use mathlib.Core.Path.{_≡_};
 ghost use Rattle.ops.specs.Record.{recordFrom};

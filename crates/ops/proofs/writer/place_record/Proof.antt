@@ -1,6 +1,6 @@
 -- `ops::writer::place_record` meets its contract. Assumes nothing.
 use Prim.Native.Nat.{_+_, _≤_}
-use mathlib.Core.Path.{refl, _∙_}
+use mathlib.Core.Path.{refl}
 use native.Mathlib.Omega.{arith}
 use lib.ListN.{length}
 use Rattle.ops.proofs.Room.{record-placed}
@@ -12,7 +12,7 @@ returns : tie.Need-returns
 returns c =
     let a = c .before .before .before .before .before .before .before .before .before .before .before .before .before .before .args in
     let h : a .at + 6 + length (a .payload .now) ≤ length (a .out .now) = omega arith in
-    (refl, c .before .before .copy-bytes .ensures ∙ rw (c .before .before .before .before .before .before .put-u16 .ensures, c .before .before .before .before .before .before .before .before .before .before .put-u32 .ensures) (record-placed (a .out .now) (a .at) (a .kind) (a .payload .now) h))
+    (refl, rw (c .before .before .copy-bytes .ensures, c .before .before .before .before .before .before .put-u16 .ensures, c .before .before .before .before .before .before .before .before .before .before .put-u32 .ensures) (record-placed (a .out .now) (a .at) (a .kind) (a .payload .now) h))
 
 pub place-record-spec : {M : Type 1} → statement M
 place-record-spec =
