@@ -19,10 +19,10 @@ impl Place {
             return self.next();
         }
         if l < at + n {
-            return self.refuse(22);
+            return self.refuse(22); // a cell beyond the counted length
         }
         if tape.len() < at + n {
-            return self.refuse(23);
+            return self.refuse(23); // a cell beyond the lent tape
         }
         lane_loops::loops::cell_lanes(k, register, &tape[at..], n);
         self.next()
@@ -38,10 +38,10 @@ impl Place {
             return self.next();
         }
         if l < at + n {
-            return self.refuse(22);
+            return self.refuse(22); // a lane would go beyond the counted length
         }
         if tape.len() < at + n {
-            return self.refuse(23);
+            return self.refuse(23); // a lane would go beyond the lent tape
         }
         lane_loops::loops::swap_lanes(register, &mut tape[at..], n);
         self.next()
