@@ -16,14 +16,14 @@ use ops::limits::LANES;
 use patch_reader::reader::load;
 
 // A count as it is stored.
-pub fn wide_count(n: u16) -> usize
+fn wide_count(n: u16) -> usize
     ensures { λ r. ⌜ r ≡ n ⌝ }
 {
     n as usize
 }
 
 // Where the outermost open bracket stands: at op i if no bracket is open before it, else where it stood.
-pub fn from_of(depth: usize, from: usize, i: usize) -> usize
+fn from_of(depth: usize, from: usize, i: usize) -> usize
     ensures { λ r. ⌜ r ≡ fromOf depth i from ⌝ }
 {
     if depth == 0 {

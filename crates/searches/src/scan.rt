@@ -53,7 +53,7 @@ fn turns(k: u8, d: usize) -> bool
 }
 
 // The End that closes the bracket open before `from`; the op count where there is none.
-pub fn jmp_to_end(kinds: &[u8], from: usize) -> usize
+fn jmp_to_end(kinds: &[u8], from: usize) -> usize
     requires { ⌜ (from ≤ length (now kinds)) × (length (now kinds) ≤ 4096) ⌝ }
     ensures { λ r. ⌜ (r ≡ endOf (now (kinds .entry)) from) × (r ≤ length (now (kinds .entry))) ⌝ }
 {
@@ -74,7 +74,7 @@ pub fn jmp_to_end(kinds: &[u8], from: usize) -> usize
 }
 
 // The Else at depth one, or the End, of the If before `from`; the op count where there is none.
-pub fn jmp_to_else(kinds: &[u8], from: usize) -> usize
+fn jmp_to_else(kinds: &[u8], from: usize) -> usize
     requires { ⌜ (from ≤ length (now kinds)) × (length (now kinds) ≤ 4096) ⌝ }
     ensures { λ r. ⌜ (r ≡ elseOf (now (kinds .entry)) from) × (r ≤ length (now (kinds .entry))) ⌝ }
 {
@@ -136,7 +136,7 @@ fn before_op(k: u8, d: usize) -> usize
 }
 
 // The op that the End at `at` closes, searched backwards; the op count where there is none.
-pub fn get_matching_for_end(kinds: &[u8], at: usize) -> usize
+fn get_matching_for_end(kinds: &[u8], at: usize) -> usize
     requires { ⌜ (at ≤ length (now kinds)) × (length (now kinds) ≤ 4096) ⌝ }
     ensures { λ r. ⌜ (r ≡ openOf (now (kinds .entry)) at) × (r ≤ length (now (kinds .entry))) ⌝ }
 {
