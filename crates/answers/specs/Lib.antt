@@ -1,4 +1,4 @@
-pub mod Machine
+pub mod Run
 pub mod Check
 pub mod Join
 pub mod Flatten

@@ -6,8 +6,8 @@
 // that there is room for, and of lanes that the register has room for; the budget by four.
 use answers::flatten::Flattened;
 use answers::join::Joined;
-use answers::machine::number_of;
-use answers::machine::place_of;
+use answers::run::number_of;
+use answers::run::place_of;
 use machine::machine::Machine;
 use ops::bytes::u16_at;
 use ops::bytes::u32_at;

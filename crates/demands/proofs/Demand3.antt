@@ -32,7 +32,7 @@ use Rattle.bridge.specs.Fits.{Fits}
 use Rattle.bridge.specs.Run.{Ran, runIn}
 use Rattle.bridge.proofs.Decoded.{Bytes}
 use Rattle.bridge.proofs.Runs.{run-seen}
-use Rattle.answers.specs.Machine.{numberOf}
+use Rattle.answers.specs.Run.{numberOf}
 use Rattle.machine.specs.Fresh.{freshOf}
 use Rattle.machine.specs.Formed.{hasRoom, isFormed}
 use Rattle.machine.specs.Calls.{Shown, lent, stepIn, steppedTo, runOver, ranTo, freshOn, freshOver}

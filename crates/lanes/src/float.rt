@@ -66,13 +66,12 @@ pub fn to_int(a: u64) -> u64
     }
 }
 
-// To the nearest float: that of the magnitude, and the sign is chosen after it, which takes no branch.
+// To the nearest float: that of the magnitude, which is no NaN and has no sign, with the sign's bit of the lane put in, so that no branch is taken.
 pub fn to_float(a: u64) -> u64
     ensures { λ r. ⌜ r ≡ toFloat a ⌝ }
 {
-    let x = std::num::nearest_u64_to_f64(magnitude(a));
-    let y = if a < HALF { x } else { -x };
-    as_int(y)
+    let p = f64::to_bits(std::num::nearest_u64_to_f64(magnitude(a)));
+    std::num::wrapping_add_u64(p, a - a % HALF)
 }
 
 pub fn float_add(a: u64, b: u64) -> u64

@@ -56,8 +56,8 @@ pub extern "C" fn feltcairn_run_fresh(
     let r = Machine::run_fresh(bytes, register, tape, table, channel, input, output, budget);
     let a = r.answer;
     let h = r.machine.place;
-    let number = answers::machine::number_of(a);
-    let place = answers::machine::place_of(a, h.position);
+    let number = answers::run::number_of(a);
+    let place = answers::run::place_of(a, h.position);
     let steps = r.steps;
     let written = h.written;
     let told = [number as u64, place as u64, steps as u64, written as u64];

@@ -19,7 +19,7 @@ use Rattle.bridge.specs.Decoded.{codeOf, givenOf}
 use Rattle.bridge.specs.Run.{Ran, seen}
 use Rattle.bridge.proofs.Decoded.{Bytes}
 use Rattle.bridge.proofs.Runs.{run-seen}
-use Rattle.answers.specs.Machine.{numberOf, placeOf}
+use Rattle.answers.specs.Run.{numberOf, placeOf}
 use Rattle.machine.specs.Fresh.{freshOf}
 use Rattle.machine.specs.Formed.{hasRoom, isFormed}
 use Rattle.machine.specs.Calls.{Shown, lent, stepIn, steppedTo, runOver, ranTo, freshOn, freshOver}

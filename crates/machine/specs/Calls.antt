@@ -11,7 +11,7 @@ use Rattle.machine_step.specs.Held.{Held, held, After}
 use Rattle.bridge.specs.View.{view, laid}
 use Rattle.bridge.specs.Decoded.{codeOf, givenOf}
 use Rattle.bridge.specs.Run.{Ran, runIn}
-use Rattle.answers.specs.Machine.{numberOf, placeOf}
+use Rattle.answers.specs.Run.{numberOf, placeOf}
 use Rattle.machine.specs.Formed.{hasRoom, isFormed}
 use Rattle.machine.specs.Fresh.{freshOf, zeroed}
 use Rattle.machine.specs.declared.machine.Machine.{Machine}

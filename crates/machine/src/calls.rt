@@ -12,7 +12,7 @@ use crate::fresh::zero;
 use crate::machine::Machine;
 use crate::machine::Ran;
 use crate::machine::Stepped;
-use answers::machine::Answer;
+use answers::run::Answer;
 use machine_ops::place::Place;
 
 // Halted, or past the last of n ops.

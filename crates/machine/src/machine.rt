@@ -1,7 +1,7 @@
 // The machine: its stacks and its numbers, with its limits and its fresh state; and what its calls leave.
 ghost use mathlib.Core.Path.{_≡_};
 ghost use Rattle.machine.specs.Fresh.{freshOf};
-use answers::machine::Answer;
+use answers::run::Answer;
 use machine_ops::place::Place;
 
 pub struct Machine {

@@ -1,8 +1,8 @@
 // The runner: a patch on standard input, checked and run from fresh with no input values, 4,096 cells, room for 4,096 outputs and a budget of
 // 100,000 steps. It prints the check's number and place, the run's number, steps and place, and the outputs; of a bad file `load`, its number
 // and place alone.
-use answers::machine::number_of;
-use answers::machine::place_of;
+use answers::run::number_of;
+use answers::run::place_of;
 use machine::machine::Machine;
 use streams::print::end_line;
 use streams::print::lanes;

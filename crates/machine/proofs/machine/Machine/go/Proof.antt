@@ -9,7 +9,7 @@ use Rattle.searches.specs.Found.{Noted}
 use Rattle.searches.proofs.Partners.{noted-none}
 use Rattle.machine_step.specs.Held.{held, code}
 use Rattle.bridge.specs.Run.{runOf}
-use Rattle.answers.specs.Machine.{numberOf, placeOf}
+use Rattle.answers.specs.Run.{numberOf, placeOf}
 use Rattle.machine.specs.Going.{Going}
 use Rattle.machine.proofs.Turns.{run-done, run-spent, run-on, run-refused, op-here, step-asks, bytes-of, going-on}
 use Rattle.machine.proofs.machine.Machine.go.Statement.{statement}

@@ -1,6 +1,6 @@
 -- `machine::machine::Machine::once` meets its contract. Assumes nothing.
 use mathlib.Core.Path.{_∙_, sym}
-use Rattle.answers.specs.Machine.{numberOf, placeOf}
+use Rattle.answers.specs.Run.{numberOf, placeOf}
 use Rattle.machine.proofs.Turns.{op-here, step-asks, once-done, once-made, once-went}
 use borrow.Author.Needs.{needs}
 use Rattle.machine.proofs.machine.Machine.once.Statement.{statement}

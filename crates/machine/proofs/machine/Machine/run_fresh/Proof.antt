@@ -3,7 +3,7 @@ use mathlib.Core.Path.{_∙_, sym}
 use native.Mathlib.Omega.{arith}
 use borrow.Author.Tests.{not-true, not-false}
 use Rattle.ops.specs.Patch.{kindIn, countIn, needIn, placeIn}
-use Rattle.answers.specs.Machine.{numberOf, placeOf}
+use Rattle.answers.specs.Run.{numberOf, placeOf}
 use Rattle.machine.proofs.WellFormed.{room}
 use Rattle.file_laws.proofs.Loaded.{good-file, part-fits, part-length}
 use Rattle.machine.proofs.Loaded.{parts-read}

@@ -1,7 +1,7 @@
 -- What a call of the machine answers: 01's number and place for each case. Assumes nothing.
 use Prim.Native.Nat.{ℕ}
-use Rattle.answers.specs.declared.machine.Answer.{Answer}
-use Rattle.answers.specs.declared.machine.Answer.the-variants.{BadFile, NotAState, Went, Finished, Spent, Refused}
+use Rattle.answers.specs.declared.run.Answer.{Answer}
+use Rattle.answers.specs.declared.run.Answer.the-variants.{BadFile, NotAState, Went, Finished, Spent, Refused}
 
 -- a step that went on, and a run or a step that is finished, are 0
 unfoldable pub numberOf : Answer → ℕ

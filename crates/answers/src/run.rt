@@ -1,6 +1,6 @@
 // What a step, a run and a fresh run answer.
 ghost use mathlib.Core.Path.{_≡_};
-ghost use Rattle.answers.specs.Machine.{numberOf, placeOf};
+ghost use Rattle.answers.specs.Run.{numberOf, placeOf};
 
 // What a call answers; specs/Machine has 01's number and place for each.
 pub enum Answer {
