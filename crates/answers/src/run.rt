@@ -2,7 +2,7 @@
 ghost use mathlib.Core.Path.{_≡_};
 ghost use Rattle.answers.specs.Run.{numberOf, placeOf};
 
-// What a call answers; specs/Machine has 01's number and place for each.
+// What a call answers; specs/Run has 01's number and place for each.
 pub enum Answer {
     BadFile(usize, usize),
     NotAState,
