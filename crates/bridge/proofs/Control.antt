@@ -11,7 +11,7 @@ use lib.ListN.{length, getD, take, drop, length-drop, length-map, List·getD-eq-
 use lib.ListN
 use lib.Seq.{getD-take, length-take-le, take-append-seam}
 use borrow.Author.Tests.{leb-true, leb-false, le-leb, lt-leb, ltb-true, le-ltb, eqb-true, eqb-false}
-use Rattle.ops.specs.Storage.{fill}
+use Rattle.byte_fields.specs.Storage.{fill}
 use Rattle.ops.specs.Op.{Op, Mark, isWhile}
 use Rattle.ops.specs.Op.Control.{function, call, ret, while, if, else, end}
 use Rattle.testing_device.proofs.Words.{byCase}
@@ -24,9 +24,9 @@ use Rattle.machine_model.specs.Limited.{count}
 use Rattle.machine_model.proofs.Scans.{end-below, else-below, function-below, kth-is}
 use Rattle.machine_model.proofs.Table.{each-enter, rising-enter, marks-few}
 use Rattle.machine_model.proofs.Stacks.{pushed, back-popped}
-use Rattle.machine_ops.specs.Place as m
+use Rattle.hops.specs.Place as m
 use Rattle.searches.specs.Found.{rowMark, rowFunction, placeOr, endOf, elseOf, openOf, markOf, entry, enteredIn, countedIn}
-use Rattle.machine_ops.specs.Control.{jumpOf, functionOf, callOf, retOf, whileOf, ifOf, elsesOf, endsOf, inTable}
+use Rattle.control_ops.specs.Control.{jumpOf, functionOf, callOf, retOf, whileOf, ifOf, elsesOf, endsOf, inTable}
 use Rattle.machine_step.specs.Held.{Held, held, steering}
 use Rattle.bridge.specs.View.{view, laid}
 use Rattle.bridge.specs.Fits.{Counted}

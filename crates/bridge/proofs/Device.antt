@@ -23,8 +23,8 @@ use Rattle.testing_device.proofs.Rings.{length-ring, ring-next, ring-poke, ring
 use Rattle.machine_model.specs.State.{Given, on, withOuts, withChannel}
 use Rattle.machine_model.specs.Step.{act, bar, gotten, write, peekAt}
 use Rattle.machine_model.specs.Step.Outcome.{next}
-use Rattle.machine_ops.specs.Place as m
-use Rattle.machine_ops.specs.Device as d
+use Rattle.hops.specs.Place as m
+use Rattle.device_ops.specs.Device as d
 use Rattle.machine_step.specs.Held.{Held, held, telling}
 use Rattle.bridge.specs.View.{view, laid}
 use Rattle.bridge.specs.Fits.{Counted}

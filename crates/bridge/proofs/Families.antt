@@ -14,7 +14,7 @@ use Rattle.ops.specs.Op.Control.{function, call, ret, while, if, else, end}
 use Rattle.ops.specs.Op.Plain.{comment, store, move, swap, locate, offset, deref, refer, cell, lane, get, put, peek, poke, alloc, free}
 use Rattle.ops.specs.Op.Sort.{ints, floats}
 use Rattle.ops.specs.Op.Op.{control, set, load, plain}
-use Rattle.machine_ops.specs.Place.{pick}
+use Rattle.hops.specs.Place.{pick}
 use Rattle.searches.specs.Found.{rowMark, rowFunction}
 use Rattle.machine_step.specs.Family.{familyOf}
 

@@ -20,9 +20,9 @@ use Rattle.machine_model.specs.State.{Given, on, withReg, withTape}
 use Rattle.machine_model.specs.Step.{act, bar, cells, stored}
 use Rattle.machine_model.specs.Step.Outcome.{next}
 use Rattle.lane_loops.proofs.Turns.{length-zip, length-map}
-use Rattle.machine_ops.specs.Place as m
-use Rattle.machine_ops.specs.Tape.{copied}
-use Rattle.machine_ops.specs.Lane.{cellOf, swapOf, aloneOf, offsetOf}
+use Rattle.hops.specs.Place as m
+use Rattle.hops.specs.Parts.{copied}
+use Rattle.lane_ops.specs.Lane.{cellOf, swapOf, aloneOf, offsetOf}
 use Rattle.machine_step.specs.Held.{Held, held, laning, swapping}
 use Rattle.bridge.specs.View.{view, laid}
 use Rattle.bridge.specs.Fits.{Counted}

@@ -6,9 +6,9 @@ use native.Mathlib.Omega.{arith}
 use lib.ListN.{length, set, take, drop, length-append, length-set, length-drop, take-append-drop}
 use lib.Seq.{length-take-le, drop-at, drop-set-lt, drop-drop}
 use Rattle.lane_loops.specs.Loops.{zipTo, mapTo, beside}
-use Rattle.ops.specs.Bytes.{valuesAt}
-use Rattle.ops.specs.Storage.{fill}
-use Rattle.machine_ops.specs.Tape.{copied}
+use Rattle.byte_fields.specs.Bytes.{valuesAt}
+use Rattle.byte_fields.specs.Storage.{fill}
+use Rattle.hops.specs.Parts.{copied}
 
 -- n of `new` count, and the rest of it is as in `old`
 pub record Laid (n : ℕ) (old new : List ℕ) : Type 0 where

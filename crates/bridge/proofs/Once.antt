@@ -3,8 +3,8 @@ use mathlib.Core.Path.{_≡_, refl}
 use mathlib.Core.Bool.{false}
 use mathlib.Core.List.{List, [], _∷_}
 use Prim.Native.Nat.{ℕ}
-use Rattle.ops.specs.Bytes.{valuesAt}
-use Rattle.ops.specs.Storage.{fill}
+use Rattle.byte_fields.specs.Bytes.{valuesAt}
+use Rattle.byte_fields.specs.Storage.{fill}
 use Rattle.kind_table.specs.Kinds.{kindAt, indexOf, runNeed}
 use Rattle.ops.specs.Record.{recordAt, bodyAt, lengthOk, countOf, modeOf}
 use Rattle.ops.specs.Patch.{patchOf, markOf}
@@ -12,8 +12,8 @@ use Rattle.ops.specs.Ops.{rows, rowAt}
 use Rattle.ops.specs.Ops as file
 use Rattle.testing_device.specs.Device.{ring, fillRing}
 use Rattle.machine_model.specs.Run.{run}
-use Rattle.machine_ops.specs.Place.{pick}
-use Rattle.machine_ops.specs.Tape.{setOf, tapeOf}
+use Rattle.hops.specs.Place.{pick}
+use Rattle.tape_ops.specs.Tape.{setOf, tapeOf}
 use Rattle.machine_step.specs.Held.{Held, held}
 use Rattle.machine_step.specs.Family.{familyOf}
 use Rattle.machine_step.specs.Step.{opOf, stepOf}

@@ -6,12 +6,12 @@ use Prim.Native.Nat.{ℕ, _≤_}
 use native.Mathlib.Omega.{arith}
 use lib.ListN.{length, drop, length-append, length-drop}
 use lib.Seq.{take-append-seam}
-use Rattle.ops.specs.Storage.{fill}
+use Rattle.byte_fields.specs.Storage.{fill}
 use Rattle.testing_device.specs.Device.{ring, fillRing}
 use Rattle.testing_device.proofs.Rings.{length-ring, ring-same, ring-fill, length-fillRing}
 use Rattle.machine_model.specs.State.{State}
 use Rattle.machine_model.specs.Step.Outcome.{next}
-use Rattle.machine_ops.specs.declared.place.Place.{Place}
+use Rattle.hops.specs.declared.place.Place.{Place}
 use Rattle.machine_step.specs.Held.{Held, held, After}
 use Rattle.bridge.specs.View.{view, lay, laid, headOf}
 use Rattle.bridge.specs.Fits.{Counted}

@@ -14,7 +14,7 @@ use Rattle.machine_model.specs.Run.{drive, run}
 use Rattle.machine_model.specs.Formed.{Formed}
 use Rattle.machine_model.proofs.Kept.{step-formed, fresh-formed}
 use Rattle.machine_model.proofs.Outcomes.{or-right}
-use Rattle.machine_ops.specs.Place.{pick}
+use Rattle.hops.specs.Place.{pick}
 use Rattle.machine_step.specs.Held.{Held}
 use Rattle.machine_step.specs.Step.{stepOf}
 use Rattle.bridge.specs.View.{view, lay, laid}

@@ -8,7 +8,7 @@ use lib.Dec.{leb, ltb}
 use lib.ListN.{length, getD}
 use lib.Seq.{length-take-le}
 use borrow.Author.Tests.{ltb-false, lt-leb}
-use Rattle.ops.specs.Bytes.{u16At, u64At}
+use Rattle.byte_fields.specs.Bytes.{u16At, u64At}
 use Rattle.kind_table.specs.Kinds.{indexOf}
 use Rattle.ops.specs.Op.{Control, Plain, Op, isFunction, needs, kindOf, plainKind, controlKind}
 use Rattle.ops.specs.Op.Control.{function, call, ret, while, if, else, end}
@@ -24,10 +24,10 @@ use Rattle.machine_model.specs.Scan.{opAt, functions}
 use Rattle.machine_model.specs.Step.{exec, act, step, op, pick, bar}
 use Rattle.machine_model.specs.Formed.{Formed}
 use Rattle.machine_model.specs.Limited.{count}
-use Rattle.machine_ops.specs.Place as m
-use Rattle.machine_ops.specs.Control.{controlOf}
-use Rattle.machine_ops.specs.Tape.{tapeOf}
-use Rattle.machine_ops.specs.Device.{deviceOf}
+use Rattle.hops.specs.Place as m
+use Rattle.control_ops.specs.Control.{controlOf}
+use Rattle.tape_ops.specs.Tape.{tapeOf}
+use Rattle.device_ops.specs.Device.{deviceOf}
 use Rattle.machine_step.specs.Held.{Held}
 use Rattle.machine_step.specs.Family.{familyOf}
 use Rattle.machine_step.specs.Step.{opOf, stepOf}

@@ -10,8 +10,8 @@ use lib.ListN
 use lib.Seq.{take-at, length-take-le, getD-take, take-take, take-set-lt}
 use borrow.Author.Tests.{lt-ltb, le-ltb, ltb-true, ltb-false, leb-true, leb-false, le-leb, lt-leb, eqb-true, eqb-false}
 use Rattle.lane_loops.specs.Loops.{zipTo, beside}
-use Rattle.ops.specs.Bytes.{valuesAt}
-use Rattle.ops.specs.Storage.{fill}
+use Rattle.byte_fields.specs.Bytes.{valuesAt}
+use Rattle.byte_fields.specs.Storage.{fill}
 use Rattle.ops.specs.Op.{Sort}
 use Rattle.ops.specs.Op.Op.{set, load}
 use Rattle.ops.specs.Op.Plain.{store, move, locate, deref, refer, alloc}
@@ -20,8 +20,9 @@ use Rattle.machine_model.specs.State.{Given, on, withReg, withTape, withCounted
 use Rattle.machine_model.specs.Step.{exec, act, bar, cover, grown, stored}
 use Rattle.machine_model.specs.Step.Outcome.{next}
 use Rattle.machine_model.proofs.Stacks.{pushed, refer-popped}
-use Rattle.machine_ops.specs.Place as m
-use Rattle.machine_ops.specs.Tape.{copied, reach, setOf, loadOf, storeOf, moveOf, whereOf, derefOf, referOf, stocked, allocOf, inRegister, inTape, inRefs}
+use Rattle.hops.specs.Place as m
+use Rattle.hops.specs.Parts.{copied}
+use Rattle.tape_ops.specs.Tape.{reach, setOf, loadOf, storeOf, moveOf, whereOf, derefOf, referOf, stocked, allocOf, inRegister, inTape, inRefs}
 use Rattle.machine_step.specs.Held.{Held, held, taping}
 use Rattle.bridge.specs.View.{view, laid}
 use Rattle.bridge.specs.Fits.{Counted}

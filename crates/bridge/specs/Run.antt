@@ -9,7 +9,7 @@ use Rattle.machine_model.specs.State.{Given}
 use Rattle.machine_model.specs.Step.{Outcome, step}
 use Rattle.machine_model.specs.Step.Outcome.{finished, refused, next}
 use Rattle.machine_model.specs.Run.{Answer}
-use Rattle.machine_ops.specs.Place.{pick}
+use Rattle.hops.specs.Place.{pick}
 use Rattle.machine_step.specs.Held.{Held, After, Code}
 use Rattle.machine_step.specs.Step.{stepOf}
 use Rattle.bridge.specs.View.{view, lay}

@@ -3,12 +3,12 @@
 use mathlib.Core.List.{List}
 use Prim.Native.Nat.{ℕ, _+_, _-_, _%_}
 use lib.ListN.{length, take}
-use Rattle.ops.specs.Storage.{fill}
+use Rattle.byte_fields.specs.Storage.{fill}
 use Rattle.testing_device.specs.Device.{ring, fillRing}
 use Rattle.machine_model.specs.State.{State}
 use Rattle.machine_model.specs.Step.{Outcome}
 use Rattle.machine_model.specs.Step.Outcome.{finished, refused, next}
-use Rattle.machine_ops.specs.declared.place.Place.{Place}
+use Rattle.hops.specs.declared.place.Place.{Place}
 use Rattle.machine_step.specs.Held.{Held, After}
 
 abbrev pub view : Held → State

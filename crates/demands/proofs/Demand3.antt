@@ -14,7 +14,6 @@ use Rattle.ops.specs.Ops.Patch.{ops, refused}
 use Rattle.file_laws.proofs.Meaning.{ops-are, refused-are}
 use Rattle.testing_device.proofs.Words.{byCase, and-left}
 use Rattle.machine_model.specs.State.{State}
-use Rattle.machine_model.specs.Step.{step}
 use Rattle.machine_model.specs.Run.{Answer}
 use Rattle.machine_model.proofs.Scans.{clash}
 use Rattle.patch_check.specs.Rules.{KeepsRules}
@@ -34,12 +33,13 @@ use Rattle.bridge.proofs.Decoded.{Bytes}
 use Rattle.bridge.proofs.Runs.{run-seen}
 use Rattle.answers.specs.Run.{numberOf}
 use Rattle.machine.specs.Fresh.{freshOf}
-use Rattle.machine.specs.Formed.{hasRoom, isFormed}
+use Rattle.states.specs.Formed.{hasRoom, isFormed}
 use Rattle.machine.specs.Calls.{Shown, lent, stepIn, steppedTo, runOver, ranTo, freshOn, freshOver}
 use Rattle.machine.specs.declared.machine.Stepped.{Stepped}
 use Rattle.machine.specs.declared.machine.Ran as code
-use Rattle.machine.proofs.WellFormed.{formed-fits}
-use Rattle.machine.proofs.Started.{fresh-view, fresh-fits}
+use Rattle.states.proofs.WellFormed.{formed-fits}
+use Rattle.demands.proofs.Started.{fresh-view, fresh-fits}
+use Rattle.machine.proofs.Once.{once-is}
 use Rattle.demands.specs.Reached.{ReachedBy}
 use Rattle.demands.specs.Reached.ReachedBy.{after-fresh, after-run, after-step, lent-anew}
 use Rattle.demands.proofs.Kept.{run-fits, once-held, once-number}
@@ -72,6 +72,14 @@ roomy ks n c e = and-left _ _ (and-left _ _ (and-left _ _ (and-left _ _ (and-lef
 -- a number that is neither 20 nor 21
 other : (n : ℕ) → eqb n 20 ≡ false → eqb n 21 ≡ false → Spared n
 other n e f = (eqb-false n 20 e, eqb-false n 21 f)
+
+-- a step leaves what a run of at most one step does, and has its number, or 0
+module _ (s input : List ℕ) (c : Held) where
+  step-held : stepIn s input c .held ≡ runOver s input 1 c .held
+  step-held = ap (λ (a : Shown). a .held) (sym (once-is s input c)) ∙ once-held (runOver s input 1 c)
+
+  step-spared : Spared (runOver s input 1 c .number) → Spared (stepIn s input c .number)
+  step-spared h = subst (λ (a : Shown). Spared (a .number)) (once-is s input c) (once-number (λ n. Spared n) (runOver s input 1 c) (other 0 refl refl) h)
 
 module _ (s : List ℕ) (y : Bytes s) (p : Passed s) where
   -- the stacks are whole; where there is room, what is seen is a state that the model's runs of the patch come to
@@ -121,29 +129,11 @@ module _ (s : List ℕ) (y : Bytes s) (p : Passed s) where
         (λ e. rw (p .good, e) (runs c (formed-fits s input c (k .call-room) (k .ref-room) e) (k .state (roomy (codeOf s .kinds) (length input) c e))))
         (λ e. rw (p .good, e) (record { spared = other 37 refl refl; known = k }))
 
-  module _ (input : List ℕ) (c : Held) where
-    -- a step leaves what a run of budget 1 does, and has its number, or 0
-    step-held : stepIn s input c .held ≡ runOver s input 1 c .held
-    unfolding stepIn runOver runIn
-    step-held =
-        let g = givenOf s input (length (c .output)) in
-        byCase (isFormed (codeOf s .kinds) (length input) c)
-        (λ e. rw (p .good, e) (sym (once-held g c (step g (view c)))))
-        (λ e. rw (p .good, e) refl)
-
-    step-spared : Spared (runOver s input 1 c .number) → Spared (stepIn s input c .number)
-    unfolding stepIn runOver runIn
-    step-spared =
-        let g = givenOf s input (length (c .output)) in
-        byCase (isFormed (codeOf s .kinds) (length input) c)
-        (λ e. rw (p .good, e) (once-number g (λ n. Spared n) c (step g (view c)) (other 0 refl refl)))
-        (λ e. rw (p .good, e) (λ h. h))
-
   -- what calls leave
   reached : (c : Held) → ReachedBy s c → Known c
   reached c (after-fresh input b g t ts ch o) = fresh-sound input b g t ts ch o .known
   reached c (after-run d input b r) = run-sound input b d (reached d r) .known
-  reached c (after-step d input r) = subst (λ (h : Held). Known h) (sym (step-held input d)) (run-sound input 1 d (reached d r) .known)
+  reached c (after-step d input r) = subst (λ (h : Held). Known h) (sym (step-held s input d)) (run-sound input 1 d (reached d r) .known)
   reached c (lent-anew m g t ts ch o g′ t′ ts′ ch′ o′ r e q) =
       let k = reached (lent m g t ts ch o) r in
       record { call-room = k .call-room; ref-room = k .ref-room; state = λ f. subst (λ (u : State). Reached (patchIn s) u) (sym q) (k .state e) }
@@ -172,4 +162,4 @@ pub demand3-step : (s : List ℕ) → Bytes s → (v : Verdict) → v ≡ checkO
     → steppedTo r g t ts ch o ≡ stepIn s input c → Spared (numberOf (r .answer))
 demand3-step s y v e z c h input r g t ts ch o q =
     let p = passed s (check-passes s v e .0 z) in
-    subst (λ (n : ℕ). Spared n) (sym (ap (λ (a : Shown). a .number) q)) (step-spared s y p input c (run-sound s y p input 1 c (reached s y p c h) .spared))
+    subst (λ (n : ℕ). Spared n) (sym (ap (λ (a : Shown). a .number) q)) (step-spared s input c (run-sound s y p input 1 c (reached s y p c h) .spared))

@@ -1,20 +1,22 @@
--- What a run leaves fits the patch as what it began with did, and a step is a run of budget 1. Assumes nothing.
+-- What a run leaves fits the patch as what it began with did; and what a step takes over of a run of at most one step. Assumes nothing.
 use mathlib.Core.Path.{_≡_, _∙_, refl, ap}
 use mathlib.Core.List.{List}
 use Prim.Native.Nat.{ℕ, zero, suc}
+use lib.Dec.{eqb}
 use lib.ListN.{length}
-use Rattle.machine_model.specs.State.{Given}
+use Rattle.testing_device.proofs.Words.{byCase}
 use Rattle.machine_model.specs.Step.{Outcome, step}
 use Rattle.machine_model.specs.Step.Outcome.{finished, refused, next}
 use Rattle.machine_model.proofs.Kept.{step-formed}
 use Rattle.machine_step.specs.Held.{Held}
-use Rattle.bridge.specs.View.{view, lay, laid}
+use Rattle.bridge.specs.View.{view, lay}
 use Rattle.bridge.specs.Decoded.{givenOf}
 use Rattle.bridge.specs.Fits.{Fits}
-use Rattle.bridge.specs.Run.{driveIn, runIn}
+use Rattle.bridge.specs.Run.{Ran, driveIn, runIn}
 use Rattle.bridge.proofs.Over.{lay-room}
 use Rattle.bridge.proofs.Decoded.{Bytes, limited}
 use Rattle.bridge.proofs.Runs.{lay-fits}
+use Rattle.machine.proofs.Once.{onceOf}
 
 -- ---- a run
 
@@ -38,22 +40,12 @@ module _ (s input : List ℕ) (y : Bytes s) where
 
 -- ---- a step
 
-module _ (g : Given) where
-  spent-held : (k : ℕ) (c : Held) (o : Outcome) → driveIn g 0 k c o .held ≡ c
-  unfolding driveIn
-  spent-held k c finished = refl
-  spent-held k c (refused n) = refl
-  spent-held k c (next t) = refl
+-- it leaves what the run of at most one step does
+pub once-held : (a : Ran) → onceOf a .held ≡ a .held
+unfolding onceOf
+once-held a = byCase (eqb (a .steps) 0) (λ e. rw e refl) (λ e. rw e refl)
 
-  pub once-held : (c : Held) (o : Outcome) → driveIn g 1 0 c o .held ≡ laid c o .held
-  unfolding driveIn
-  once-held c finished = refl
-  once-held c (refused n) = refl
-  once-held c (next t) = spent-held 1 (lay t c) (step g (view (lay t c)))
-
-  -- what holds of 0 and of that run's number holds of the step's
-  pub once-number : (P : ℕ → Type 0) (c : Held) (o : Outcome) → P 0 → P (driveIn g 1 0 c o .number) → P (laid c o .number)
-  unfolding driveIn
-  once-number P c finished z h = h
-  once-number P c (refused n) z h = h
-  once-number P c (next t) z h = z
+-- and what holds of 0 and of that run's number holds of the step's
+pub once-number : (P : ℕ → Type 0) (a : Ran) → P 0 → P (a .number) → P (onceOf a .number)
+unfolding onceOf
+once-number P a z h = byCase (eqb (a .steps) 0) (λ e. rw e h) (λ e. rw e z)

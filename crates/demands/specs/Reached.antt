@@ -5,7 +5,7 @@ use mathlib.Core.List.{List}
 use Prim.Native.Nat.{ℕ}
 use Rattle.machine_step.specs.Held.{Held}
 use Rattle.bridge.specs.View.{view}
-use Rattle.machine.specs.Formed.{hasRoom}
+use Rattle.states.specs.Formed.{hasRoom}
 use Rattle.machine.specs.Calls.{lent, stepIn, runOver, freshOver}
 use Rattle.machine.specs.declared.machine.Machine.{Machine}
 

@@ -6,8 +6,8 @@ use native.Mathlib.Numerals.{add-one}
 use native.Mathlib.Omega.{arith}
 use lib.ListN.{length, getD, take, drop}
 use lib.Seq.{drop-cons, drop-drop, take-add}
-use Rattle.ops.specs.Bytes.{u16At, u32At, u64At, valuesAt, textAt}
-use Rattle.ops.specs.Write.{le16, le32, le64, valueBytes, Below}
+use Rattle.byte_fields.specs.Bytes.{u16At, u32At, u64At, valuesAt, textAt, le16, le32, le64}
+use Rattle.ops.specs.Write.{valueBytes, Below}
 
 -- ---- numbers
 

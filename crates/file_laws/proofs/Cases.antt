@@ -6,7 +6,7 @@ use native.Mathlib.Omega.{arith}
 use borrow.Author.Tests.{lt-ltb}
 use lib.ListN.{length, replicate, length-replicate}
 use Rattle.ops.specs.declared.op.Mode.the-variants.{Char, Int, Other}
-use Rattle.ops.specs.Bytes.{valuesAt, textAt}
+use Rattle.byte_fields.specs.Bytes.{valuesAt, textAt}
 use Rattle.kind_table.specs.Kinds.{kindAt, indexOf}
 use Rattle.ops.specs.Refusals.{numberOf}
 use Rattle.ops.specs.Record.{lengthOk, countOf, modeOf, bodyAt, recordAt}

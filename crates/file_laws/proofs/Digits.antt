@@ -6,8 +6,8 @@ use native.Mathlib.Nat.{add-zero}
 use native.Mathlib.Omega.{arith}
 use lib.ListN.{length, getD, take, drop}
 use lib.Seq.{getD-drop, drop-drop, drop-append-seam, take-append-seam}
-use Rattle.ops.specs.Bytes.{u16At, u32At, u64At, valuesAt, textAt}
-use Rattle.ops.specs.Write.{le16, le32, le64, valueBytes, Below}
+use Rattle.byte_fields.specs.Bytes.{u16At, u32At, u64At, valuesAt, textAt, le16, le32, le64}
+use Rattle.ops.specs.Write.{valueBytes, Below}
 
 -- what stands after a part
 pub after : (s : List ℕ) (p : ℕ) (xs t : List ℕ) → drop p s ≡ xs ++ t → drop (p + length xs) s ≡ t

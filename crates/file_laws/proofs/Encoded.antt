@@ -13,7 +13,7 @@ use Rattle.lanes.specs.declared.lane.LaneOp.{LaneOp}
 use Rattle.lanes.specs.declared.lane.LaneOp.the-variants.{BitwiseNot, Not, Neg, Inc, Dec, IsNonNegative, ToInt, ToFloat, FloatNeg, FloatIsNonNegative}
 use Rattle.ops.specs.declared.op.Mode.{Mode}
 use Rattle.ops.specs.declared.op.Mode.the-variants.{Char, Int, Other}
-use Rattle.ops.specs.Bytes.{u16At, u32At, u64At}
+use Rattle.byte_fields.specs.Bytes.{u16At, u32At, u64At, le16, le32, le64}
 use Rattle.kind_table.specs.Kinds.{shape, kindAt, indexOf}
 use Rattle.ops.specs.Record.{lengthOk, countOf, modeOf}
 use Rattle.ops.specs.Op.{Control, Plain, Op, kindOf}
@@ -23,7 +23,7 @@ use Rattle.ops.specs.Op.Sort.{ints, floats}
 use Rattle.ops.specs.Op.Op.{control, set, load, plain}
 use Rattle.ops.specs.Patch.{markOf}
 use Rattle.ops.specs.Ops.{rows, rowAt, modeIn, opWith, opCount}
-use Rattle.ops.specs.Write.{le16, le32, le64, modeNumber, valueBytes, payloadOf, PlainFits, Fits, markIn}
+use Rattle.ops.specs.Write.{modeNumber, valueBytes, payloadOf, PlainFits, Fits, markIn}
 use Rattle.file_laws.proofs.Rows.{rule}
 use Rattle.file_laws.proofs.Digits.{after-two, at16, at32, at64, length-le64, at-values, at-text}
 

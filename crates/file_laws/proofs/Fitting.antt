@@ -7,7 +7,7 @@ use mathlib.Core.List.{List, [], _∷_, _++_, map}
 use lib.Dec.{eqb, ltb}
 use lib.ListN.{length, getD, take, drop, length-map}
 use borrow.Author.Tests.{leb-true, eqb-true, ltb-false}
-use Rattle.ops.specs.Bytes.{u16At, u32At, u64At, valuesAt, textAt}
+use Rattle.byte_fields.specs.Bytes.{u16At, u32At, u64At, valuesAt, textAt}
 use Rattle.kind_table.specs.Kinds.{shape}
 use Rattle.ops.specs.Record.{lengthOk, countOf}
 use Rattle.ops.specs.Refusals.{numberOf}
@@ -25,8 +25,8 @@ use Rattle.file_laws.proofs.Items.{IsItem, Every, items-are, few-items,
 use Rattle.file_laws.proofs.Meaning.{means}
 use Rattle.file_laws.proofs.Rewritten.{bytes-back}
 use Rattle.file_laws.proofs.Rows.{rule, row-rule}
-use Rattle.ops.proofs.TextAt.{length-text}
-use Rattle.ops.proofs.ValuesAt.{length-values}
+use Rattle.byte_fields.proofs.TextAt.{length-text}
+use Rattle.byte_fields.proofs.ValuesAt.{length-values}
 use Rattle.patch_reader.proofs.Whole.{tells}
 use Rattle.ops.proofs.Clash.{clash}
 

@@ -7,7 +7,7 @@ use native.Mathlib.Omega.{arith}
 use borrow.Author.Tests.{eq-eqb, ne-eqb}
 use lib.ListN.{length, take, drop, length-map, length-append}
 use lib.Seq.{take-at}
-use Rattle.ops.specs.Storage.{fill}
+use Rattle.byte_fields.specs.Storage.{fill}
 use Rattle.ops.specs.Patch.{Item, patchOf}
 use Rattle.patch_reader.specs.Answer.{readOf}
 use Rattle.patch_reader.specs.declared.reader.Read.{Read}

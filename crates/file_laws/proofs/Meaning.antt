@@ -16,8 +16,8 @@ use Rattle.ops.specs.Op.Op.{control, set, load, plain}
 use Rattle.ops.specs.Patch.{Item, kindIn, countIn, needIn, patchOf}
 use Rattle.ops.specs.Ops.{rowAt, plainWith, opWith, opAt, plainCount, opCount, opsOf}
 use Rattle.ops.specs.Ops.Patch.{ops, refused}
-use Rattle.ops.proofs.ValuesAt.{length-values}
-use Rattle.ops.proofs.TextAt.{length-text}
+use Rattle.byte_fields.proofs.ValuesAt.{length-values}
+use Rattle.byte_fields.proofs.TextAt.{length-text}
 use Rattle.patch_reader.proofs.Whole.{Tells, tells}
 use Rattle.file_laws.proofs.Items.{IsItem, Every, items-are}
 use Rattle.file_laws.proofs.Rows.{controlRule, plainRule, rule, Row, row-rule}

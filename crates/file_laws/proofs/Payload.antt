@@ -4,7 +4,7 @@ use mathlib.Core.Path.{_≡_, _∙_, refl, sym, ap}
 use mathlib.Core.List.{List}
 use Prim.Native.Nat.{ℕ}
 use Rattle.ops.specs.declared.op.Mode.{Mode}
-use Rattle.ops.specs.Bytes.{u16At, u64At, valuesAt, textAt}
+use Rattle.byte_fields.specs.Bytes.{u16At, u64At, valuesAt, textAt}
 use Rattle.ops.specs.Op.{Plain, Sort, Op}
 use Rattle.ops.specs.Op.Plain.{comment, store, move, swap, locate, offset, deref, refer, cell, lane, get, put, peek, poke, alloc, free}
 use Rattle.ops.specs.Op.Op.{control, set, load, plain}

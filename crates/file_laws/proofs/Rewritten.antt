@@ -12,7 +12,7 @@ use Rattle.ops.specs.declared.refusals.Refusal.{Refusal}
 use Rattle.ops.specs.declared.refusals.Refusal.the-variants.{CutShort, WrongLength, UnknownKind, LeftOut, TooManyLanes, WrongMode, TooManyOps, TooManyMarks, FileTooLong}
 use Rattle.ops.specs.declared.records.Record.{Record}
 use Rattle.ops.specs.declared.records.Record.the-variants.{Whole, Bad}
-use Rattle.ops.specs.Bytes.{u16At, u32At, textAt}
+use Rattle.byte_fields.specs.Bytes.{u16At, u32At, textAt, le16, le32}
 use Rattle.kind_table.specs.Kinds.{shape, kindAt, indexOf}
 use Rattle.ops.specs.Refusals.{numberOf}
 use Rattle.ops.specs.Record.{recordAt, lengthOk, countOf, modeOf}
@@ -22,8 +22,8 @@ use Rattle.ops.specs.Op.Op.{control, set, load, plain}
 use Rattle.ops.specs.Patch.{item, Loaded, ending, stop, push, onRecord, onFull, walk, patchOf, markOf}
 use Rattle.ops.specs.Ops.{modeIn, rowAt, opWith, opAt, opsOf}
 use Rattle.ops.specs.Ops.Patch.{ops, refused}
-use Rattle.ops.specs.Write.{le16, le32, modeNumber, recordOf, payloadOf, encode, encodeAll, Below}
-use Rattle.ops.proofs.TextAt.{length-text}
+use Rattle.ops.specs.Write.{modeNumber, recordOf, payloadOf, encode, encodeAll, Below}
+use Rattle.byte_fields.proofs.TextAt.{length-text}
 use Rattle.file_laws.proofs.BytesBack.{text-add, back16, back32, back64, back-values}
 use Rattle.ops.proofs.Clash.{clash}
 use Rattle.file_laws.proofs.Rows.{rule, row-rule}

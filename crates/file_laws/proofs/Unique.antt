@@ -6,7 +6,7 @@ use denote.Ref.{RefT}
 use Rattle.ops.specs.Record.{recordFrom}
 use Rattle.ops.specs.Patch.{Item, patchOf}
 use Rattle.patch_reader.specs.Answer.{readOf}
-use Rattle.ops.specs.Storage.{fill}
+use Rattle.byte_fields.specs.Storage.{fill}
 use Rattle.ops.specs.Write.{Wrote, wrote, writeOf}
 use Rattle.ops.specs.declared.writer.Written.{Written}
 use Rattle.ops.specs.declared.records.Record.{Record}

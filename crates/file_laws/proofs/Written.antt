@@ -8,14 +8,15 @@ use borrow.Author.Tests.{le-ltb, leb-false}
 use lib.Dec.{ltb}
 use lib.ListN.{length, take, drop, length-append, length-drop}
 use lib.Seq.{drop-append-seam, drop-at, length-take-le}
-use Rattle.ops.specs.Bytes.{u16At, u32At}
+use Rattle.byte_fields.specs.Bytes.{u16At, u32At, le16, le32}
 use Rattle.kind_table.specs.Kinds.{shape, kindAt, indexOf}
 use Rattle.ops.specs.Record.{recordAt, bodyAt, modeOf}
 use Rattle.ops.specs.declared.records.Record.the-variants.{Whole}
 use Rattle.ops.specs.Op.{Op, kindOf}
 use Rattle.ops.specs.Patch.{Item, item}
 use Rattle.ops.specs.Ops.{opAt, opCount}
-use Rattle.ops.specs.Write.{le16, le32, recordOf, placed, payloadOf, encode, encodeAll, Fits}
+use Rattle.byte_fields.specs.Storage.{placed}
+use Rattle.ops.specs.Write.{recordOf, payloadOf, encode, encodeAll, Fits}
 use Rattle.file_laws.proofs.Rows.{rule}
 use Rattle.file_laws.proofs.Digits.{after, at16, at32}
 use Rattle.file_laws.proofs.Encoded.{known, Reads, payload-reads}

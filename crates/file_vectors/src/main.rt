@@ -11,7 +11,7 @@ ghost use lib.ListN.{length};
 fn size(low: u8, high: u8) -> usize
     ensures { λ r. ⌜ r < 65536 ⌝ }
 {
-    ops::bytes::wide(low) + 256 * ops::bytes::wide(high)
+    byte_fields::read::wide(low) + 256 * byte_fields::read::wide(high)
 }
 
 // Reads n bytes to the place `at`, and answers the place after them.

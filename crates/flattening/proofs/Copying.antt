@@ -8,19 +8,20 @@ use mathlib.Core.List.{List, [], _∷_, _++_, append-assoc, append-nil}
 use lib.Dec.{eqb}
 use lib.ListN.{length, getD, take, drop, length-append, length-drop, drop-of-length-le}
 use lib.Seq.{drop-cons, take-append-seam}
-use Rattle.ops.specs.Bytes.{u32At, textAt}
+use Rattle.byte_fields.specs.Bytes.{u32At, textAt, le16, le32}
 use Rattle.ops.specs.Op.{Op, kindOf}
 use Rattle.ops.specs.Op.Op.{plain}
 use Rattle.ops.specs.Op.Plain.{free}
 use Rattle.ops.specs.Ops.{Patch, opsOf}
 use Rattle.ops.specs.Ops.Patch.{ops}
 use Rattle.ops.specs.Patch.{patchOf}
-use Rattle.ops.specs.Write.{le16, le32, recordOf, placed, payloadOf, encode, encodeAll, Below}
+use Rattle.byte_fields.specs.Storage.{placed}
+use Rattle.ops.specs.Write.{recordOf, payloadOf, encode, encodeAll, Below}
 use Rattle.file_laws.proofs.Digits.{after, at32}
 use Rattle.file_laws.proofs.Fitting.{short, below-all}
 use Rattle.file_laws.proofs.Meaning.{ops-are}
 use Rattle.file_laws.proofs.Rewritten.{bytes-back}
-use Rattle.ops.proofs.Storage.{placed-none, placed-then, length-placed}
+use Rattle.byte_fields.proofs.Storage.{placed-none, placed-then, length-placed}
 use Rattle.file_laws.proofs.Written.{length-encode, encode-append, parts, ends}
 use Rattle.flattening.specs.Flatten.{body}
 use Rattle.flattening.specs.Scope.{partOf}

@@ -10,7 +10,7 @@ use lib.ListN.{length, getD, take, length-map, length-append, List·getD-map}
 use Rattle.ops.specs.Op.{Op}
 use Rattle.ops.specs.Op.Op.{control, set, load, plain}
 use Rattle.ops.specs.Op.Plain.{free}
-use Rattle.ops.specs.Storage.{fill}
+use Rattle.byte_fields.specs.Storage.{fill}
 use Rattle.ops.specs.Patch.{Item, kindIn, markOf, patchOf}
 use Rattle.patch_reader.specs.Answer.{readOf}
 use Rattle.ops.specs.Ops.{rows, rowAt, opWith, opAt}

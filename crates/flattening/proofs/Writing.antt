@@ -7,9 +7,9 @@ use mathlib.Core.Path.{_≡_, refl, ap, sym, _∙_}
 use mathlib.Core.List.{List, [], _∷_, _++_, map, append-assoc, append-nil}
 use lib.ListN.{length, getD, set, drop, length-append, length-set, drop-of-length-le}
 use Rattle.ops.specs.Op.{Op}
-use Rattle.ops.specs.Storage.{fill}
-use Rattle.ops.specs.Write.{placed, encodeAll}
-use Rattle.ops.proofs.Storage.{placed-then, length-placed, fill-snoc}
+use Rattle.byte_fields.specs.Storage.{fill, placed}
+use Rattle.ops.specs.Write.{encodeAll}
+use Rattle.byte_fields.proofs.Storage.{placed-then, length-placed, fill-snoc}
 use Rattle.flattening.specs.Flatten.{body, bodies, gathered, others}
 use Rattle.flattening.specs.declared.body.Body.{Body}
 use Rattle.flattening.specs.Scope.{listed}

@@ -7,7 +7,7 @@ use lib.ListN.{length}
 use Rattle.ops.specs.Op.{Op}
 use Rattle.ops.specs.Ops.{Patch, opsOf}
 use Rattle.ops.specs.Ops.Patch.{ops, refused}
-use Rattle.ops.specs.Storage.{fill}
+use Rattle.byte_fields.specs.Storage.{fill}
 use Rattle.ops.specs.Write.{encodeAll, marksIn}
 use Rattle.flattening.specs.Flatten.{Flat, flatten}
 use Rattle.flattening.specs.Flatten.Flat.{loose, flat}

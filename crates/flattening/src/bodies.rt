@@ -4,15 +4,15 @@ ghost use mathlib.Core.List.{_++_, map};
 ghost use Prim.Native.Nat.{ℕ, _+_, _≤_};
 ghost use lib.ListN.{length};
 ghost use Rattle.ops.specs.Patch.{patchOf};
-ghost use Rattle.ops.specs.Storage.{fill};
-ghost use Rattle.ops.specs.Write.{encodeAll, placed};
+ghost use Rattle.byte_fields.specs.Storage.{fill, placed};
+ghost use Rattle.ops.specs.Write.{encodeAll};
 ghost use Rattle.flattening.specs.Flatten.{body, gathered, bodies, others};
 ghost use Rattle.flattening.specs.Scope.{listed, partOf};
 ghost use Rattle.flattening.specs.Flattened.{opsIn, numberIn, firstIn, countIn};
 use crate::numbering::wide_number;
-use ops::bytes::u32_at;
-use ops::bytes::wide;
-use ops::writer::copy_bytes;
+use byte_fields::read::u32_at;
+use byte_fields::read::wide;
+use byte_fields::write::copy_bytes;
 
 // The byte after the records that were copied, and how many they are.
 pub struct Copied {

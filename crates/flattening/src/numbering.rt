@@ -5,7 +5,7 @@ ghost use Prim.Native.Nat.{ℕ, _≤_, _<_};
 ghost use lib.ListN.{length, take, replicate};
 ghost use Rattle.flattening.specs.Flatten.{number};
 ghost use Rattle.flattening.specs.Scope.{leavingOf, hereOf, newOf, openAfter, bodyAfter, rowNotes, listed, told};
-use ops::bytes::wide;
+use byte_fields::read::wide;
 use patch_reader::reader::mark_of;
 
 // Every op has its body, or this op is an End with no open bracket.

@@ -6,7 +6,7 @@ use crate::bodies::write_bodies;
 use crate::numbering::Numbering;
 use crate::numbering::number_ops;
 use answers::flatten::Flattened;
-use ops::bytes::wide;
+use byte_fields::read::wide;
 use patch_reader::reader::load;
 use patch_reader::reader::mark_of;
 

@@ -10,7 +10,7 @@ use lib.ListN.{length, getD}
 use lib.Signed.{nonNeg}
 use borrow.Author.Tests.{lt-ltb, le-ltb}
 use Rattle.lanes.specs.Int.{wrap, bit, signed}
-use Rattle.ops.specs.Storage.{fill}
+use Rattle.byte_fields.specs.Storage.{fill}
 use Rattle.ops.specs.Ops.{opsOf}
 use Rattle.ops.specs.Ops.Patch.{ops, refused}
 use Rattle.ops.specs.Op.{Op, argOf, valuesOf}

@@ -7,7 +7,7 @@ use lib.ListN.{length, getD, drop, length-append, length-drop, length-map, lengt
 use mir.Val.{Fits}
 use mir.Syntax.{w8}
 use borrow.Author.Tests.{lt-ltb, le-ltb}
-use Rattle.ops.specs.Storage.{fill}
+use Rattle.byte_fields.specs.Storage.{fill}
 use Rattle.ops.specs.Patch.{Item, item, kindIn, countIn, placeIn, patchOf}
 use Rattle.patch_reader.specs.Answer.{readOf}
 use Rattle.ops.specs.Ops.{opAt, opsOf}

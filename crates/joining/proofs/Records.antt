@@ -11,8 +11,8 @@ use lib.Dec.{eqb}
 use lib.ListN.{length, getD, take, drop, length-append}
 use lib.Seq.{take-at}
 use borrow.Author.Tests.{eqb-true, eqb-false, eq-eqb, ne-eqb}
-use Rattle.ops.specs.Bytes.{u32At, u64At, valuesAt, textAt}
-use Rattle.ops.specs.Storage.{fill}
+use Rattle.byte_fields.specs.Bytes.{u32At, u64At, valuesAt, textAt, le16, le32, le64}
+use Rattle.byte_fields.specs.Storage.{fill, placed}
 use Rattle.kind_table.specs.Kinds.{shape, kindAt}
 use Rattle.ops.specs.Record.{lengthOk, countOf}
 use Rattle.ops.specs.Patch.{Item}
@@ -21,11 +21,11 @@ use Rattle.ops.specs.Op.{Op}
 use Rattle.ops.specs.Op.Plain.{move}
 use Rattle.ops.specs.Op.Sort.{ints}
 use Rattle.ops.specs.Op.Op.{set, plain}
-use Rattle.ops.specs.Write.{le16, le32, le64, recordOf, valueBytes, encode, encodeAll, placed, Below}
-use Rattle.ops.proofs.TextAt.{length-text}
+use Rattle.ops.specs.Write.{recordOf, valueBytes, encode, encodeAll, Below}
+use Rattle.byte_fields.proofs.TextAt.{length-text}
 use Rattle.file_laws.proofs.BytesBack.{text-add}
 use Rattle.file_laws.proofs.Digits.{length-le64}
-use Rattle.ops.proofs.Storage.{placed-then, placed-none}
+use Rattle.byte_fields.proofs.Storage.{placed-then, placed-none}
 use Rattle.patch_reader.proofs.Whole.{tells}
 use Rattle.file_laws.proofs.Items.{IsItem}
 use Rattle.file_laws.proofs.Rewritten.{record-again}

@@ -10,14 +10,14 @@ use lib.Seq.{take-suc, take-length}
 use borrow.Author.Tests.{eqb-true, eqb-false, eq-eqb, ne-eqb, ltb-false}
 use Rattle.lanes.specs.Int.{intAdd, intGez}
 use Rattle.kind_table.specs.Kinds.{indexOf}
-use Rattle.ops.specs.Bytes.{u64At, valuesAt}
+use Rattle.byte_fields.specs.Bytes.{u64At, valuesAt}
 use Rattle.ops.specs.Patch.{Item, item, patchOf}
 use Rattle.ops.specs.Ops.{rows, rowAt, opWith, opAt, opCount}
 use Rattle.ops.specs.Op.{Op, kindOf, argOf, valuesOf}
 use Rattle.ops.specs.Op.Plain.{move}
 use Rattle.ops.specs.Op.Sort.{ints}
 use Rattle.ops.specs.Op.Op.{set, plain}
-use Rattle.ops.proofs.ValuesAt.{length-values}
+use Rattle.byte_fields.proofs.ValuesAt.{length-values}
 use Rattle.file_laws.proofs.Items.{IsItem, item-at}
 use Rattle.file_laws.proofs.Meaning.{means}
 use Rattle.joining.specs.Join.{Rule, total, tested, rule, moved, react, op, pushes, join}

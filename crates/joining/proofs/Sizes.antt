@@ -12,7 +12,8 @@ use Rattle.ops.specs.Ops.{opCount}
 use Rattle.ops.specs.Op.{Op, Plain, kindOf, argOf, valuesOf}
 use Rattle.ops.specs.Op.Plain.{comment, store, move, swap, locate, offset, deref, refer, cell, lane, get, put, peek, poke, alloc, free}
 use Rattle.ops.specs.Op.Op.{control, set, load, plain}
-use Rattle.ops.specs.Write.{le16, le32, le64, valueBytes, payloadOf, encode, encodeAll}
+use Rattle.byte_fields.specs.Bytes.{le16, le32, le64}
+use Rattle.ops.specs.Write.{valueBytes, payloadOf, encode, encodeAll}
 use Rattle.file_laws.proofs.Encoded.{known, length-bytes}
 use Rattle.file_laws.proofs.Rows as rows
 use Rattle.file_laws.proofs.Written.{length-encode}

@@ -6,7 +6,7 @@ use mathlib.Core.List.{List, [], _∷_, map, reverse}
 use lib.Dec.{eqb}
 use lib.ListN.{length, getD}
 use Rattle.lanes.specs.Int.{intAdd, intGez}
-use Rattle.ops.specs.Bytes.{u64At}
+use Rattle.byte_fields.specs.Bytes.{u64At}
 use Rattle.ops.specs.Patch.{Item, item, patchOf}
 use Rattle.ops.specs.Ops.{opAt}
 use Rattle.ops.specs.Op.{Op}

@@ -3,15 +3,16 @@ ghost use mathlib.Core.Path.{_≡_};
 ghost use mathlib.Core.Bool.{true};
 ghost use Prim.Native.Nat.{ℕ, _+_, _<_, _≤_};
 ghost use lib.ListN.{length, getD};
-ghost use Rattle.ops.specs.Storage.{fill};
-ghost use Rattle.ops.specs.Write.{le64, placed, encode, Below};
+ghost use Rattle.byte_fields.specs.Storage.{fill, placed};
+ghost use Rattle.byte_fields.specs.Bytes.{le64};
+ghost use Rattle.ops.specs.Write.{encode, Below};
 ghost use Rattle.joining.specs.Stack.{valued, valueOf, Holds, Within, entry, stack, opOf, file};
 use crate::stack::count_of;
 use crate::stack::kind_of;
-use ops::bytes::u32_at;
-use ops::bytes::u64_at;
-use ops::writer::copy_bytes;
-use ops::writer::put_u32;
+use byte_fields::read::u32_at;
+use byte_fields::read::u64_at;
+use byte_fields::write::copy_bytes;
+use byte_fields::write::put_u32;
 
 // The first byte of op i's payload; 0 beyond the last.
 pub fn wide(p: u32) -> usize

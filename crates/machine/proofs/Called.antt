@@ -1,92 +1,119 @@
 -- From the steps over a patch that is read to the public calls: "reads the patch first, then 37, then works". Assumes nothing.
 use mathlib.Core.Path.{_≡_, _∙_, refl, ap, sym, subst}
-use mathlib.Core.Bool.{true, false}
-use mathlib.Core.List.{List}
+use mathlib.Core.Bool.{Bool, true, false, not}
+use mathlib.Core.List.{List, map}
 use Prim.Native.Nat.{ℕ}
-use lib.ListN.{length}
-use borrow.Author.Tests.{eq-eqb, ne-eqb}
-use Rattle.ops.specs.Patch.{patchOf}
+use native.Mathlib.Omega.{arith}
+use lib.ListN.{length, take, length-replicate}
+use borrow.Author.Tests.{eq-eqb, ne-eqb, le-leb, not-true, not-false}
+use Rattle.byte_fields.specs.Storage.{fill}
+use Rattle.ops.specs.Patch.{kindIn, countIn, needIn, placeIn, patchOf}
 use Rattle.patch_reader.specs.Answer.{readOf}
 use Rattle.patch_reader.specs.declared.reader.Read.{Read}
-use Rattle.machine_step.specs.Held.{Held, Code}
-use Rattle.bridge.specs.Decoded.{codeOf}
+use Rattle.file_laws.proofs.Loaded.{number-is, good-file, bad-file, bad-place, part-is}
+use Rattle.machine_step.specs.Held.{Held, Code, code}
+use Rattle.bridge.specs.Decoded.{codeOf, givenOf}
 use Rattle.bridge.specs.Fits.{Fits}
-use Rattle.bridge.specs.Run.{runOf}
+use Rattle.bridge.specs.Run.{runIn, runOf}
 use Rattle.bridge.proofs.Decoded.{Bytes}
 use Rattle.bridge.proofs.Runs.{run-laid}
-use Rattle.machine.specs.Fresh.{freshOf, zeroed}
-use Rattle.machine.specs.Formed.{hasRoom, isFormed}
-use Rattle.machine.specs.Going.{Going, onceOf}
-use Rattle.machine.specs.Calls.{lent, still, unmoved, stepIn, runOver, freshOn, freshOver}
+use Rattle.states.specs.Zeros.{zeroed}
+use Rattle.states.specs.Formed.{hasRoom, inLimits, inPlace, allOf, callsBelow, refsWithin, namesFrom, tableNames, isFormed}
+use Rattle.states.proofs.WellFormed.{formed-fits, fits-formed}
+use Rattle.machine.specs.Fresh.{freshOf}
+use Rattle.machine.specs.Going.{Going}
+use Rattle.machine.specs.Calls.{lent, unmoved, runOver, freshOn, freshOver}
 use Rattle.machine.specs.declared.machine.Machine.{Machine}
-use Rattle.machine.proofs.WellFormed.{formed-fits, fits-formed}
-use Rattle.machine.proofs.Started.{fresh-fits}
-use Rattle.machine.proofs.Turns.{once-is}
-use Rattle.file_laws.proofs.Loaded.{number-is, good-file, bad-file, bad-place}
+
+-- the fresh machine is a state of every patch, where there is room
+fresh-state : (ks : List ℕ) (n : ℕ) (g t ts ch o : List ℕ) → hasRoom g ts ch ≡ true → isFormed ks n (lent freshOf g t ts ch o) ≡ true
+unfolding isFormed inLimits inPlace callsBelow refsWithin allOf tableNames namesFrom freshOf
+fresh-state ks n g t ts ch o e = rw (e, le-leb 0 (length ks) (omega arith), le-leb 0 n (omega arith), le-leb 0 (length o) (omega arith)) refl
+
+-- room is a matter of lengths
+as-long : (g g′ ts ch : List ℕ) → length g′ ≡ length g → hasRoom g′ ts ch ≡ hasRoom g ts ch
+unfolding hasRoom
+as-long g g′ ts ch e = rw e refl
 
 module _ (s input : List ℕ) where
-  -- ---- refused before any step: the file's refusal, and then 37
+  -- ---- a bad file
 
-  module _ (r : Read) (q : r ≡ readOf (patchOf s)) where
-    module _ (z : r .number ≡ 0 → ⊥) where
-      pub step-bad : (c : Held) → still (r .number) (r .place) c ≡ stepIn s input c
-      unfolding stepIn
-      step-bad c = rw (number-is s r q, bad-place s r q z, ne-eqb (patchOf s .number) 0 (bad-file s r q z)) refl
+  module _ (r : Read) (q : r ≡ readOf (patchOf s)) (z : r .number ≡ 0 → ⊥) where
+    pub run-bad : (n : ℕ) (c : Held) → unmoved (r .number) (r .place) c ≡ runOver s input n c
+    unfolding runOver
+    run-bad n c = rw (number-is s r q, bad-place s r q z, ne-eqb (patchOf s .number) 0 (bad-file s r q z)) refl
 
-      pub run-bad : (b : ℕ) (c : Held) → unmoved (r .number) (r .place) c ≡ runOver s input b c
-      unfolding runOver
-      run-bad b c = rw (number-is s r q, bad-place s r q z, ne-eqb (patchOf s .number) 0 (bad-file s r q z)) refl
-
-      pub fresh-bad : (m : Machine) → m ≡ freshOf → (b : ℕ) (g t ts ch o : List ℕ) → unmoved (r .number) (r .place) (lent m g t ts ch o) ≡ freshOver s input b g t ts ch o
-      unfolding freshOver
-      fresh-bad m f b g t ts ch o = rw (f, number-is s r q, bad-place s r q z, ne-eqb (patchOf s .number) 0 (bad-file s r q z)) refl
-
-    module _ (z : r .number ≡ 0) where
-      module _ (ks : List ℕ) (k : ks ≡ codeOf s .kinds) (c : Held) (e : isFormed ks (length input) c ≡ false) where
-        pub step-unformed : still 37 0 c ≡ stepIn s input c
-        unfolding stepIn
-        step-unformed = rw (eq-eqb (patchOf s .number) 0 (good-file s r q z), ← k, e) refl
-
-        pub run-unformed : (b : ℕ) → unmoved 37 0 c ≡ runOver s input b c
-        unfolding runOver
-        run-unformed b = rw (eq-eqb (patchOf s .number) 0 (good-file s r q z), ← k, e) refl
-
-      pub fresh-cramped : (m : Machine) → m ≡ freshOf → (b : ℕ) (g t ts ch o : List ℕ) → hasRoom g ts ch ≡ false → unmoved 37 0 (lent m g t ts ch o) ≡ freshOver s input b g t ts ch o
-      unfolding freshOver
-      fresh-cramped m f b g t ts ch o e = rw (f, eq-eqb (patchOf s .number) 0 (good-file s r q z), e) refl
+    pub fresh-bad : (m : Machine) → m ≡ freshOf → (n : ℕ) (g t ts ch o : List ℕ) → unmoved (r .number) (r .place) (lent m g t ts ch o) ≡ freshOver s input n g t ts ch o
+    unfolding freshOver
+    fresh-bad m f n g t ts ch o = rw (f, number-is s r q, bad-place s r q z, ne-eqb (patchOf s .number) 0 (bad-file s r q z)) refl
 
   -- ---- the steps
 
-  module _ (x : Code) where
-    pub going-of : (c : Held) → patchOf s .number ≡ 0 → x ≡ codeOf s → length (c .calls) ≡ 256 → length (c .refs) ≡ 256 → isFormed (x .kinds) (length input) c ≡ true → Going s input x c
-    going-of c z q kc kr e = record { good = z; read = q; fits = formed-fits s input c kc kr (sym (ap (λ (y : Code). isFormed (y .kinds) (length input) c) q) ∙ e) }
+  module _ (x : Code) (c : Held) (h : Going s input x c) where
+    passed : isFormed (codeOf s .kinds) (length input) c ≡ true
+    passed = fits-formed s input c (h .fits .counted .call-room) (h .fits .counted .ref-room) (h .fits)
 
-    passes : (c : Held) → Going s input x c → isFormed (codeOf s .kinds) (length input) c ≡ true
-    passes c h = fits-formed s input c (h .fits .counted .call-room) (h .fits .counted .ref-room) (h .fits)
-
-    pub step-called : (c : Held) → Going s input x c → onceOf x input c ≡ stepIn s input c
-    unfolding stepIn
-    step-called c h =
-        ap (λ (y : Code). onceOf y input c) (h .read) ∙ once-is s input c (h .fits)
-        ∙ rw (eq-eqb (patchOf s .number) 0 (h .good), passes c h) refl
-
-    pub run-called : Bytes s → (b : ℕ) (c : Held) → Going s input x c → runOf b 0 x input c ≡ runOver s input b c
+    pub run-called : Bytes s → (n : ℕ) → runOf n 0 x input c ≡ runOver s input n c
     unfolding runOver
-    run-called y b c h =
-        ap (λ (w : Code). runOf b 0 w input c) (h .read) ∙ run-laid s input y b c (h .fits)
-        ∙ rw (eq-eqb (patchOf s .number) 0 (h .good), passes c h) refl
+    run-called y n =
+        ap (λ (w : Code). runOf n 0 w input c) (h .read) ∙ run-laid s input y n c (h .fits)
+        ∙ rw (eq-eqb (patchOf s .number) 0 (h .good), passed) refl
 
-    -- a fresh machine among what is lent, once the zeros are written
-    module _ (m : Machine) (g t ts ch o g′ t′ : List ℕ) (f : m ≡ freshOf) (zg : g′ ≡ zeroed 1024 g) (zt : t′ ≡ zeroed (length t) t) (room : hasRoom g ts ch ≡ true) (y : Bytes s) where
-      is-fresh : lent m g′ t′ ts ch o ≡ freshOn g t ts ch o
-      is-fresh = rw (f, zg, zt) refl
+  -- ---- a good file, as `load` leaves it: its ops in the first entries of the four arrays
 
-      pub going-fresh : patchOf s .number ≡ 0 → x ≡ codeOf s → Going s input x (lent m g′ t′ ts ch o)
-      going-fresh z q = record { good = z; read = q; fits = subst (λ (c : Held). Fits s input c) (sym is-fresh) (fresh-fits g t ts ch o room s input y) }
+  module _ (r : Read) (ks ns ds ps ks₀ ns₀ ds₀ ps₀ : List ℕ)
+      (l : (r ≡ readOf (patchOf s)) × ((ks ≡ fill (map kindIn (patchOf s .items)) ks₀) × ((ns ≡ fill (map countIn (patchOf s .items)) ns₀)
+      × ((ds ≡ fill (map needIn (patchOf s .items)) ds₀) × (ps ≡ fill (map placeIn (patchOf s .items)) ps₀)))))
+      (z : r .number ≡ 0) where
+    abbrev read : Code
+    read = code (take (r .place) ks) (take (r .place) ns) (take (r .place) ds) (take (r .place) ps) s
 
-      pub fresh-called : (b : ℕ) → Going s input x (lent m g′ t′ ts ch o) → runOf b 0 x input (lent m g′ t′ ts ch o) ≡ freshOver s input b g t ts ch o
+    good : patchOf s .number ≡ 0
+    good = good-file s r (l .0) z
+
+    is-read : read ≡ codeOf s
+    unfolding codeOf
+    is-read =
+        rw (
+          part-is s r (l .0) z kindIn ks ks₀ (l .1 .0),
+          part-is s r (l .0) z countIn ns ns₀ (l .1 .1 .0),
+          part-is s r (l .0) z needIn ds ds₀ (l .1 .1 .1 .0),
+          part-is s r (l .0) z placeIn ps ps₀ (l .1 .1 .1 .1),
+        ) refl
+
+    -- a run, where b is the answer of the test of 37
+    module _ (c : Held) (b : Bool) (e : b ≡ isFormed (take (r .place) ks) (length input) c) where
+      tested : b ≡ isFormed (codeOf s .kinds) (length input) c
+      tested = e ∙ ap (λ (x : Code). isFormed (x .kinds) (length input) c) is-read
+
+      pub run-unformed : not b ≡ true → (n : ℕ) → unmoved 37 0 c ≡ runOver s input n c
+      unfolding runOver
+      run-unformed f n = rw (eq-eqb (patchOf s .number) 0 good, ← tested, not-true b f) refl
+
+      pub run-going : not b ≡ false → length (c .calls) ≡ 256 → length (c .refs) ≡ 256 → Going s input read c
+      run-going f kc kr = record { good = good; read = is-read; fits = formed-fits s input c kc kr (sym tested ∙ not-false b f) }
+
+    -- a fresh run, where b is the answer of the test of the lent room
+    module _ (m : Machine) (f : m ≡ freshOf) (g t ts ch o : List ℕ) (b : Bool) (e : b ≡ hasRoom g ts ch) where
+      pub fresh-cramped : not b ≡ true → (n : ℕ) → unmoved 37 0 (lent m g t ts ch o) ≡ freshOver s input n g t ts ch o
       unfolding freshOver
-      fresh-called b h =
-          ap (λ (w : Code). runOf b 0 w input (lent m g′ t′ ts ch o)) (h .read) ∙ ap (λ (c : Held). runOf b 0 (codeOf s) input c) is-fresh
-          ∙ run-laid s input y b (freshOn g t ts ch o) (fresh-fits g t ts ch o room s input y)
-          ∙ rw (eq-eqb (patchOf s .number) 0 (h .good), room) refl
+      fresh-cramped h n = rw (f, eq-eqb (patchOf s .number) 0 good, ← e, not-true b h) refl
+
+      module _ (h : not b ≡ false) (g′ t′ : List ℕ) where
+        -- whatever is written to the register and the tape
+        pub fresh-going : length g′ ≡ length g → Going s input read (lent m g′ t′ ts ch o)
+        unfolding freshOf
+        fresh-going k =
+            let n = length-replicate {A = ℕ} 256 0 in
+            let q = fresh-state (codeOf s .kinds) (length input) g′ t′ ts ch o (as-long g g′ ts ch k ∙ sym e ∙ not-false b h) in
+            record { good = good; read = is-read; fits = subst (λ (w : Machine). Fits s input (lent w g′ t′ ts ch o)) (sym f) (formed-fits s input (lent freshOf g′ t′ ts ch o) n n q) }
+
+        -- and where that is zeros
+        pub fresh-called : Going s input read (lent m g′ t′ ts ch o) → g′ ≡ zeroed 1024 g → t′ ≡ zeroed (length t) t → Bytes s → (n : ℕ)
+            → runOf n 0 read input (lent m g′ t′ ts ch o) ≡ freshOver s input n g t ts ch o
+        unfolding freshOver
+        fresh-called k zg zt y n =
+            let z : lent m g′ t′ ts ch o ≡ freshOn g t ts ch o = rw (f, zg, zt) refl in
+            ap (λ (x : Code). runOf n 0 x input (lent m g′ t′ ts ch o)) is-read ∙ run-laid s input y n (lent m g′ t′ ts ch o) (k .fits)
+            ∙ ap (λ (c : Held). runIn (givenOf s input (length o)) n c) z
+            ∙ rw (eq-eqb (patchOf s .number) 0 good, sym e ∙ not-false b h) refl

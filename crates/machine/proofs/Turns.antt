@@ -18,8 +18,8 @@ use Rattle.machine_model.specs.Step.Outcome.{next}
 use Rattle.machine_model.specs.Formed.{Rising}
 use Rattle.machine_model.proofs.Outcomes.{or-right}
 use Rattle.searches.specs.Found.{partnerOf}
-use Rattle.machine_ops.specs.Place.{pick}
-use Rattle.machine_ops.specs.declared.place.Place.{Place}
+use Rattle.hops.specs.Place.{pick}
+use Rattle.hops.specs.declared.place.Place.{Place}
 use Rattle.machine_step.specs.Held.{Held, After, Code}
 use Rattle.machine_step.specs.Step.{stepOf}
 use Rattle.bridge.specs.View.{view, laid}
@@ -29,11 +29,10 @@ use Rattle.bridge.specs.Fits.{Fits}
 use Rattle.bridge.specs.Run.{ran, runOf}
 use Rattle.bridge.proofs.Decoded.{Bytes, rows, many-kinds, fine}
 use Rattle.bridge.proofs.Steps.{step-is}
-use Rattle.bridge.proofs.Real.{Real, step-real, step-over}
+use Rattle.bridge.proofs.Real.{Real, step-real}
 use Rattle.bridge.proofs.Real.Real.{goes, stops}
 use Rattle.bridge.proofs.Runs.{step-fits}
-use Rattle.machine.specs.Going.{Going, overOf, onceOf}
-use Rattle.machine.specs.Calls.{still, showing, stepOver}
+use Rattle.machine.specs.Going.{Going, overOf}
 
 -- ---- the four ways through a turn
 
@@ -60,20 +59,6 @@ module _ (x : Code) (input : List ℕ) (c : Held) where
       run-refused a =
           let z : budget - k ≡ suc (budget - (k + 1)) = omega arith in
           rw (z, e, ← q, ne-eqb (o .number) 0 a) refl
-
-  -- ---- and through one step
-
-  pub once-done : overOf (c .place) (length (x .kinds)) ≡ true → still 0 (c .place .position) c ≡ onceOf x input c
-  unfolding onceOf pick
-  once-done e = rw e refl
-
-  module _ (e : overOf (c .place) (length (x .kinds)) ≡ false) (o : After) (q : o ≡ stepOf x input c) where
-    pub once-made : showing o ≡ onceOf x input c
-    unfolding onceOf pick
-    once-made = rw (e, q) refl
-
-    pub once-went : o .number ≡ 0 → still 0 (o .held .place .position) (o .held) ≡ onceOf x input c
-    once-went a = ap (λ (n : ℕ). still n (o .held .place .position) (o .held)) (sym a) ∙ once-made
 
 -- ---- a step of what is good and well formed
 
@@ -133,11 +118,3 @@ going-on s input x c b h e o q a =
       read = h .read;
       fits = fits-on s input c (h .fits) e b _ (step-real (givenOf s input (length (c .output))) (view c) (over-is s input c (h .fits) ∙ e)) refl o (q ∙ steps s input c (h .fits) e) a;
     }
-
--- one step is the model's, laid
-pub once-is : (s input : List ℕ) (c : Held) → Fits s input c → onceOf (codeOf s) input c ≡ stepOver s input c
-unfolding onceOf pick
-once-is s input c h =
-    byCase (overOf (c .place) (length (codeOf s .kinds)))
-    (λ e. rw (e, step-over (givenOf s input (length (c .output))) (view c) (over-is s input c h ∙ e)) refl)
-    (λ e. rw (e, steps s input c h e) refl)

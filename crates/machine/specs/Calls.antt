@@ -12,8 +12,9 @@ use Rattle.bridge.specs.View.{view, laid}
 use Rattle.bridge.specs.Decoded.{codeOf, givenOf}
 use Rattle.bridge.specs.Run.{Ran, runIn}
 use Rattle.answers.specs.Run.{numberOf, placeOf}
-use Rattle.machine.specs.Formed.{hasRoom, isFormed}
-use Rattle.machine.specs.Fresh.{freshOf, zeroed}
+use Rattle.states.specs.Formed.{hasRoom, isFormed}
+use Rattle.states.specs.Zeros.{zeroed}
+use Rattle.machine.specs.Fresh.{freshOf}
 use Rattle.machine.specs.declared.machine.Machine.{Machine}
 use Rattle.machine.specs.declared.machine.Stepped.{Stepped}
 use Rattle.machine.specs.declared.machine.Ran as code

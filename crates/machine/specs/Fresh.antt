@@ -1,9 +1,6 @@
--- The fresh machine, and zeros written over lent storage. Assumes nothing.
+-- The fresh machine. Assumes nothing.
 use mathlib.Core.Bool.{false}
-use mathlib.Core.List.{List}
-use Prim.Native.Nat.{ℕ}
-use lib.ListN.{length, replicate}
-use Rattle.ops.specs.Storage.{fill}
+use lib.ListN.{replicate}
 use Rattle.machine.specs.declared.machine.Machine.{Machine}
 
 -- "Fresh: 1,024 zero lanes; pointer, position and counted length 0; stacks, table and channel empty; input place and output count 0; not halted"
@@ -14,7 +11,3 @@ freshOf =
       refs = replicate 256 0;
       place = record { depth = 0; saved = 0; pointer = 0; position = 0; length = 0; lanes = 1024; functions = 0; first = 0; waiting = 0; taken = 0; written = 0; halted = false };
     }
-
--- the first n entries zero, the others as they were
-unfoldable pub zeroed : ℕ → List ℕ → List ℕ
-zeroed n l = fill (replicate n 0) l

@@ -1,4 +1,3 @@
 pub mod Fresh
-pub mod Formed
 pub mod Calls
 pub mod Going

@@ -2,7 +2,7 @@
 ghost use mathlib.Core.Path.{_≡_};
 ghost use Rattle.machine.specs.Fresh.{freshOf};
 use answers::run::Answer;
-use machine_ops::place::Place;
+use hops::place::Place;
 
 pub struct Machine {
     pub calls: [u16; 256],
@@ -34,7 +34,7 @@ impl Machine {
 
     pub const REFS: usize = Place::REFS;
 
-    pub const CHANNEL: usize = 256;
+    pub const CHANNEL: usize = states::formed::CHANNEL;
 
     pub const POINTER: usize = Place::POINTER;
 

@@ -5,7 +5,7 @@ use Prim.Native.Nat.{ℕ}
 use native.Mathlib.Omega.{arith}
 use borrow.Author.Tests.{eqb-true, eqb-false}
 use lib.Dec.{eqb}
-use Rattle.machine_ops.specs.Place.{pick}
+use Rattle.hops.specs.Place.{pick}
 use Rattle.machine_step.specs.Family.{familyOf, among, controlRows, cellRows, laneRows, deviceRows}
 
 -- a test whose first answer is another family's

@@ -1,9 +1,9 @@
 -- All that a machine has and is lent, and a patch as the machine reads it. Assumes nothing.
 use mathlib.Core.List.{List}
 use Prim.Native.Nat.{ℕ}
-use Rattle.machine_ops.specs.declared.place.Place.{Place}
-use Rattle.machine_ops.specs.declared.place.Hop.{Hop}
-use Rattle.machine_ops.specs.Place.{Steered, Laned, Swapped, Taped, Told}
+use Rattle.hops.specs.declared.place.Place.{Place}
+use Rattle.hops.specs.declared.place.Hop.{Hop}
+use Rattle.hops.specs.Place.{Steered, Laned, Swapped, Taped, Told}
 
 pub record Held : Type 0 where
   pub place : Place

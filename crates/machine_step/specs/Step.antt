@@ -4,12 +4,12 @@ use Prim.Native.Nat.{ℕ}
 use lib.ListN.{getD}
 use lib.Dec.{ltb, eqb}
 use Rattle.lane_loops.specs.Rows.{cellRow, laneRow}
-use Rattle.ops.specs.Bytes.{u64At}
-use Rattle.machine_ops.specs.Place.{pick, hop}
-use Rattle.machine_ops.specs.Control.{controlOf}
-use Rattle.machine_ops.specs.Tape.{tapeOf}
-use Rattle.machine_ops.specs.Lane.{cellOf, swapOf, aloneOf, offsetOf}
-use Rattle.machine_ops.specs.Device.{deviceOf}
+use Rattle.byte_fields.specs.Bytes.{u64At}
+use Rattle.hops.specs.Place.{pick, hop}
+use Rattle.control_ops.specs.Control.{controlOf}
+use Rattle.tape_ops.specs.Tape.{tapeOf}
+use Rattle.lane_ops.specs.Lane.{cellOf, swapOf, aloneOf, offsetOf}
+use Rattle.device_ops.specs.Device.{deviceOf}
 use Rattle.machine_step.specs.Held.{Held, After, steering, laning, swapping, taping, telling, Code}
 use Rattle.machine_step.specs.Family.{familyOf}
 

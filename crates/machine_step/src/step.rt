@@ -8,20 +8,10 @@ ghost use Rattle.machine_step.specs.Held.{held, after, code};
 ghost use Rattle.machine_step.specs.Step.{opOf, stepOf};
 ghost use Rattle.machine_step.specs.Fine.{Fine};
 use crate::family::family_of;
-use machine_ops::place::Hop;
-use machine_ops::place::Place;
-
-fn wide(x: u16) -> usize
-    ensures { λ r. ⌜ (r ≡ x) × (r < 65536) ⌝ }
-{
-    x as usize
-}
-
-fn wide32(x: u32) -> usize
-    ensures { λ r. ⌜ (r ≡ x) × (r < 4294967296) ⌝ }
-{
-    x as usize
-}
+use hops::place::Hop;
+use hops::place::Place;
+use hops::wide::wide;
+use hops::wide::wide32;
 
 // The op at the position: of row k, it counts n, its payload is at byte a, and its partner stands at `with`.
 fn op(
@@ -46,16 +36,16 @@ fn op(
 {
     let f = family_of(k);
     match f {
-        1 => h.control(k, with, kinds, calls, register, table),
-        2 => h.cell(k, n, register, tape),
-        3 => h.alone(k, n, register),
-        4 => h.device(k, a, register, channel, output, input, bytes),
+        1 => control_ops::control::control(h, k, with, kinds, calls, register, table),
+        2 => lane_ops::lane::cell(h, k, n, register, tape),
+        3 => lane_ops::lane::alone(h, k, n, register),
+        4 => device_ops::device::device(h, k, a, register, channel, output, input, bytes),
         5 => {
-            let by = ops::bytes::u64_at(bytes, a);
-            h.offset(by, n, register)
+            let by = byte_fields::read::u64_at(bytes, a);
+            lane_ops::lane::offset(h, by, n, register)
         }
-        6 => h.swap(n, register, tape),
-        _ => h.tape(k, n, a, refs, register, tape, bytes),
+        6 => lane_ops::lane::swap(h, n, register, tape),
+        _ => tape_ops::tape::tape(h, k, n, a, refs, register, tape, bytes),
     }
 }
 

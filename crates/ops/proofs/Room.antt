@@ -7,10 +7,11 @@ use native.Mathlib.Omega.{arith}
 use borrow.Author.Tests.{leb-true}
 use lib.Dec.{leb}
 use lib.ListN.{length}
-use Rattle.ops.specs.Bytes.{textAt}
-use Rattle.ops.specs.Write.{le16, le32, recordOf, placed, hasRoom}
-use Rattle.ops.proofs.Storage.{placed-then}
-use Rattle.ops.proofs.TextAt.{text-whole}
+use Rattle.byte_fields.specs.Bytes.{textAt, le16, le32}
+use Rattle.byte_fields.specs.Storage.{placed}
+use Rattle.ops.specs.Write.{recordOf, hasRoom}
+use Rattle.byte_fields.proofs.Storage.{placed-then}
+use Rattle.byte_fields.proofs.TextAt.{text-whole}
 
 both : (a b : Bool) → cond a b false ≡ true → (a ≡ true) × (b ≡ true)
 both true b e = (refl, e)

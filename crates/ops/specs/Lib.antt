@@ -1,6 +1,4 @@
 pub mod Op
-pub mod Storage
-pub mod Bytes
 pub mod Refusals
 pub mod Record
 pub mod Patch

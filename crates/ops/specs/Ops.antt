@@ -10,7 +10,7 @@ use Rattle.lanes.specs.declared.lane.LaneOp.{LaneOp}
 use Rattle.lanes.specs.declared.lane.LaneOp.the-variants.{BitwiseNot, Not, Neg, Inc, Dec, IsNonNegative, ToInt, ToFloat, FloatNeg, FloatIsNonNegative}
 use Rattle.ops.specs.declared.op.Mode.{Mode}
 use Rattle.ops.specs.declared.op.Mode.the-variants.{Char, Int, Other}
-use Rattle.ops.specs.Bytes.{u16At, u32At, u64At, valuesAt, textAt}
+use Rattle.byte_fields.specs.Bytes.{u16At, u32At, u64At, valuesAt, textAt}
 use Rattle.ops.specs.Op.{Plain, Op}
 use Rattle.ops.specs.Op.Control.{function, call, ret, while, if, else, end}
 use Rattle.ops.specs.Op.Plain.{comment, store, move, swap, locate, offset, deref, refer, cell, lane, get, put, peek, poke, alloc, free}

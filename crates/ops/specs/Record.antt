@@ -4,7 +4,7 @@ use mathlib.Core.Bool.{Bool, cond, not}
 use mathlib.Core.List.{List}
 use lib.ListN.{length}
 use lib.Dec.{ltb, leb, eqb}
-use Rattle.ops.specs.Bytes.{u16At, u32At}
+use Rattle.byte_fields.specs.Bytes.{u16At, u32At}
 use Rattle.kind_table.specs.Kinds.{shape, kindAt, indexOf}
 use Rattle.ops.specs.declared.refusals.Refusal.the-variants.{CutShort, WrongLength, UnknownKind, LeftOut, TooManyLanes, WrongMode, FileTooLong}
 use Rattle.ops.specs.declared.records.Record.{Record}

@@ -1,6 +1,28 @@
 // How Get reads and how Put writes.
+ghost use mathlib.Core.Path.{_≡_};
+ghost use Prim.Native.Nat.{_+_, _≤_};
+ghost use lib.ListN.{length};
+ghost use Rattle.byte_fields.specs.Bytes.{u16At};
+ghost use Rattle.ops.specs.Ops.{modeIn};
+use byte_fields::read::u16_at;
+
 pub enum Mode {
     Char,
     Int,
     Other,
+}
+
+// The mode at byte `at`.
+pub fn mode_at(bytes: &[u8], at: usize) -> Mode
+    requires { ⌜ at + 2 ≤ length (now bytes) ⌝ }
+    ensures { λ r. ⌜ r ≡ modeIn (u16At (now (bytes .entry)) at) ⌝ }
+{
+    let mode = u16_at(bytes, at);
+    if mode == 0 {
+        return Mode::Char;
+    }
+    if mode == 1 {
+        return Mode::Int;
+    }
+    Mode::Other
 }

@@ -4,11 +4,11 @@ ghost use mathlib.Core.Bool.{true};
 ghost use Prim.Native.Nat.{_+_, _≤_};
 ghost use lib.ListN.{length};
 ghost use Rattle.ops.specs.Record.{lengthOk, countOf, modeOf, bodyAt, recordAt, recordFrom};
-use crate::bytes::u16_at;
-use crate::bytes::u32_at;
 use crate::limits::FILE_BYTES;
 use crate::limits::LANES;
 use crate::refusals::Refusal;
+use byte_fields::read::u16_at;
+use byte_fields::read::u32_at;
 use kind_table::kinds::index_of;
 use kind_table::kinds::kind_at;
 

@@ -2,42 +2,17 @@
 ghost use mathlib.Core.Path.{_≡_};
 ghost use Prim.Native.Nat.{_+_, _≤_};
 ghost use lib.ListN.{length};
-ghost use Rattle.ops.specs.Bytes.{textAt};
-ghost use Rattle.ops.specs.Write.{le16, le32, recordOf, placed, hasRoom, wrote, writeOf};
+ghost use Rattle.byte_fields.specs.Storage.{placed};
+ghost use Rattle.ops.specs.Write.{recordOf, hasRoom, wrote, writeOf};
 use crate::limits::FILE_BYTES;
+use byte_fields::write::copy_bytes;
+use byte_fields::write::put_u16;
+use byte_fields::write::put_u32;
 
 // The byte after the record, or no room for it.
 pub enum Written {
     Next(usize),
     NoRoom,
-}
-
-// The n bytes from byte `from` of `bytes`, to byte `at` of `out`.
-pub fn copy_bytes(out: &mut [u8], at: usize, bytes: &[u8], from: usize, n: usize)
-    requires { ⌜ (at + n ≤ length (now out)) × (from + n ≤ length (now bytes)) ⌝ }
-    ensures { λ _. ⌜ now (out .exit) ≡ placed (now (out .entry)) at (textAt (now (bytes .entry)) from n) ⌝ }
-{
-    let mut i = 0;
-    while i < n {
-        out[at + i] = bytes[from + i];
-        i += 1;
-    }
-}
-
-fn put_u16(out: &mut [u8], at: usize, n: usize)
-    requires { ⌜ at + 2 ≤ length (now out) ⌝ }
-    ensures { λ _. ⌜ now (out .exit) ≡ placed (now (out .entry)) at (le16 n) ⌝ }
-{
-    out[at] = (n % 256) as u8;
-    out[at + 1] = (n / 256 % 256) as u8;
-}
-
-pub fn put_u32(out: &mut [u8], at: usize, n: usize)
-    requires { ⌜ at + 4 ≤ length (now out) ⌝ }
-    ensures { λ _. ⌜ now (out .exit) ≡ placed (now (out .entry)) at (le32 n) ⌝ }
-{
-    put_u16(out, at, n);
-    put_u16(out, at + 2, n / 65536);
 }
 
 // Whether a record with `len` bytes of payload may stand at byte `at` of `size` bytes.

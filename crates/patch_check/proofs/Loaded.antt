@@ -3,7 +3,7 @@ use Prim.Native.Nat.{ℕ}
 use mathlib.Core.Path.{_≡_, _∙_}
 use mathlib.Core.List.{List, map}
 use lib.ListN.{take}
-use Rattle.ops.specs.Storage.{fill}
+use Rattle.byte_fields.specs.Storage.{fill}
 use Rattle.ops.specs.Patch.{kindIn, countIn, patchOf}
 use Rattle.patch_reader.specs.Answer.{readOf}
 use Rattle.patch_reader.specs.declared.reader.Read.{Read}

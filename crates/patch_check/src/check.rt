@@ -11,7 +11,7 @@ use crate::rows::ends_of;
 use crate::rows::need_of;
 use crate::rows::opens_of;
 use answers::check::Verdict;
-use ops::bytes::wide;
+use byte_fields::read::wide;
 use ops::limits::LANES;
 use patch_reader::reader::load;
 

@@ -8,8 +8,8 @@ use borrow.Author.Tests.{lt-ltb, le-ltb}
 use lib.Dec.{eqb}
 use lib.ListN.{length, set, length-append, length-map}
 use lib.Seq.{append-snoc}
-use Rattle.ops.specs.Storage.{fill}
-use Rattle.ops.proofs.Storage.{fill-snoc}
+use Rattle.byte_fields.specs.Storage.{fill}
+use Rattle.byte_fields.proofs.Storage.{fill-snoc}
 use Rattle.kind_table.specs.Kinds.{need, kindAt, runNeed}
 use Rattle.ops.specs.Refusals.{numberOf}
 use Rattle.ops.specs.Record.{recordAt, recordFrom}

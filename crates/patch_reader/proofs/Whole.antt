@@ -7,7 +7,7 @@ use native.Mathlib.Omega.{arith}
 use borrow.Author.Tests.{ltb-false, leb-false, not-false}
 use lib.Dec.{ltb, leb, eqb}
 use lib.ListN.{length}
-use Rattle.ops.specs.Bytes.{u16At, u32At}
+use Rattle.byte_fields.specs.Bytes.{u16At, u32At}
 use Rattle.kind_table.specs.Kinds.{shape, kindAt, indexOf}
 use Rattle.ops.specs.Record.{recordAt, bodyAt, lengthOk, countOf, modeOf}
 use Rattle.ops.specs.declared.refusals.Refusal.{Refusal}

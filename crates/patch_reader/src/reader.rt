@@ -3,7 +3,7 @@ ghost use mathlib.Core.Path.{_≡_};
 ghost use mathlib.Core.List.{map};
 ghost use Prim.Native.Nat.{_≤_};
 ghost use lib.ListN.{length};
-ghost use Rattle.ops.specs.Storage.{fill};
+ghost use Rattle.byte_fields.specs.Storage.{fill};
 ghost use Rattle.ops.specs.Patch.{kindIn, countIn, needIn, placeIn, markOf, patchOf};
 ghost use Rattle.patch_reader.specs.Answer.{refusedAt, readOf};
 use crate::record_reader::read_record;

@@ -8,6 +8,13 @@ pub enum Found {
     Differs,
 }
 
+pub fn of_same(same: bool) -> Found {
+    if same {
+        return Found::Agrees;
+    }
+    Found::Differs
+}
+
 pub fn is_case(found: Found) -> bool {
     match found {
         Found::End => false,

@@ -1,7 +1,7 @@
 // What a case of a list says, by places in its bytes (docs/REPLAY.md). A place that is not there is BEYOND, and the number that stands there 0.
 ghost use Prim.Native.Nat.{_<_};
-use ops::bytes::u32_at;
-use ops::bytes::u64_at;
+use byte_fields::read::u32_at;
+use byte_fields::read::u64_at;
 
 pub const BEYOND: usize = 0xffffffff;
 
@@ -26,6 +26,13 @@ pub fn word(case: &[u8], at: usize) -> usize
         return 0;
     }
     u32_at(case, at)
+}
+
+// The number n bytes on.
+pub fn word_on(case: &[u8], at: usize, n: usize) -> usize
+    ensures { λ r. ⌜ r < 4294967296 ⌝ }
+{
+    word(case, after(case, at, n))
 }
 
 pub fn value(case: &[u8], at: usize) -> u64 {

@@ -4,7 +4,7 @@ mod list; // the bytes of a case
 mod tell; // what is said of a difference
 mod found; // what is found of a case
 mod state; // a machine
-mod slices; // what is expected of lent storage
+mod slices; // the five slices of a run
 mod run; // runs, fresh and from a state
 mod shape; // joins and flattenings
 
@@ -14,7 +14,7 @@ use crate::found::is_case;
 use crate::found::show_damage;
 use crate::list::word;
 use crate::tell::Tell;
-use ops::bytes::u32_at;
+use byte_fields::read::u32_at;
 use streams::part::of_bytes;
 use streams::print::end_line;
 use streams::print::number;

@@ -1,9 +1,11 @@
 // A case that is a join or a flattening: the lent room holds one byte throughout before the call.
 use crate::found::Found;
+use crate::found::of_same;
 use crate::list::after;
 use crate::list::after_bytes;
 use crate::list::byte;
 use crate::list::word;
+use crate::list::word_on;
 use crate::tell::Tell;
 use answers::flatten::Flattened;
 use answers::join::Joined;
@@ -45,16 +47,9 @@ fn same_answer(
 ) -> bool {
     let at_bytes = after(case, at, 8);
     tell.same(b"number", word(case, at), number)
-        && tell.same(b"place", word(case, after(case, at, 4)), place)
+        && tell.same(b"place", word_on(case, at, 4), place)
         && tell.same(b"byte length", word(case, at_bytes), bytes)
         && same_bytes(tell, case, at_bytes, byte(case, 4), out)
-}
-
-fn found(same: bool) -> Found {
-    if same {
-        return Found::Agrees;
-    }
-    Found::Differs
 }
 
 // ---- joining: room, fill, and from byte 5 on what is expected
@@ -69,7 +64,7 @@ fn same_join(tell: Tell, case: &[u8], r: Joined, out: &[u8]) -> bool {
 
 fn join_to(tell: Tell, file: &[u8], case: &[u8], out: &mut [u8]) -> Found {
     let r = joining::join::join(file, out);
-    found(same_join(tell, case, r, out))
+    of_same(same_join(tell, case, r, out))
 }
 
 fn join(tell: Tell, file: &[u8], case: &[u8]) -> Found {
@@ -165,7 +160,7 @@ fn flatten_to(
     counts: &mut [u32],
 ) -> Found {
     let r = flattening::numbers::flatten_numbers(file, out, numbers, firsts, counts);
-    found(same_flat(tell, case, r, out, numbers, firsts, counts))
+    of_same(same_flat(tell, case, r, out, numbers, firsts, counts))
 }
 
 fn number(b: u8) -> u32 {
@@ -175,23 +170,20 @@ fn number(b: u8) -> u32 {
 fn flatten(tell: Tell, file: &[u8], case: &[u8]) -> Found {
     let fill = byte(case, 4);
     let each = number(fill);
-    let room = word(case, 5);
     let mut out = [fill; 65552];
     let mut numbers = [each; 264];
     let mut firsts = [each; 264];
     let mut counts = [each; 264];
     let n = of_bytes(word(case, 0), &out);
-    let k = of_numbers(room, &numbers);
-    let l = of_numbers(room, &firsts);
-    let m = of_numbers(room, &counts);
+    let k = of_numbers(word(case, 5), &numbers);
     flatten_to(
         tell,
         file,
         case,
         &mut out[..n],
         &mut numbers[..k],
-        &mut firsts[..l],
-        &mut counts[..m],
+        &mut firsts[..k],
+        &mut counts[..k],
     )
 }
 

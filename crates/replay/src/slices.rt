@@ -1,10 +1,90 @@
-// Whether the elements of a slice are the contents that are expected of it.
+// The five slices of a run: where a case has them, laid down as they are given, and compared with what is expected of them.
 ghost use Prim.Native.Nat.{_≤_};
+ghost use Rattle.io.specs.Counts.{Counts};
 use crate::list::after;
 use crate::list::after_contents;
+use crate::list::after_inputs;
+use crate::list::after_slice;
+use crate::list::contents;
 use crate::list::value;
 use crate::list::word;
 use crate::tell::Tell;
+use streams::part::of_lanes;
+use streams::part::of_places;
+
+// Where each of the five begins, and the place after them.
+pub struct Places {
+    pub tape: usize,
+    pub register: usize,
+    pub table: usize,
+    pub channel: usize,
+    pub output: usize,
+    pub end: usize,
+}
+
+// The slices that a case gives after its inputs, where there is storage enough for them.
+pub fn given_at(case: &[u8]) -> Places {
+    let tape = after_inputs(case, 4);
+    let register = after_slice(case, tape, 4096);
+    let table = after_slice(case, register, 1026);
+    let channel = after_slice(case, table, 258);
+    let output = after_slice(case, channel, 258);
+    let end = after_slice(case, output, 4096);
+    Places {
+        tape,
+        register,
+        table,
+        channel,
+        output,
+        end,
+    }
+}
+
+// The contents that are expected, from a place on.
+pub fn expected_at(case: &[u8], tape: usize) -> Places {
+    let register = after_contents(case, tape);
+    let table = after_contents(case, register);
+    let channel = after_contents(case, table);
+    let output = after_contents(case, channel);
+    let end = after_contents(case, output);
+    Places {
+        tape,
+        register,
+        table,
+        channel,
+        output,
+        end,
+    }
+}
+
+// Lays a slice down, and answers how many elements it has.
+pub fn lay(case: &[u8], at: usize, values: &mut [u64]) -> usize
+    ensures { λ r. ⌜ Counts r (now (values .exit)) ⌝ }
+{
+    contents(case, after(case, at, 4), values);
+    of_lanes(word(case, at), values)
+}
+
+// The table of functions as it is lent: its entries have two bytes.
+fn narrow(from: &[u64], to: &mut [u16]) {
+    let mut i: usize = 0;
+    while i < from.len() {
+        if to.len() <= i {
+            return;
+        }
+        to[i] = (from[i] % 65536) as u16;
+        i += 1;
+    }
+}
+
+pub fn lay_table(case: &[u8], at: usize, table: &mut [u16]) -> usize
+    ensures { λ r. ⌜ Counts r (now (table .exit)) ⌝ }
+{
+    let mut entries = [0u64; 258];
+    lay(case, at, &mut entries);
+    narrow(&entries, table);
+    of_places(word(case, at), table)
+}
 
 // Whether the next of the entries left is that of element i.
 fn is_entry(case: &[u8], from: usize, left: usize, i: usize) -> bool {
@@ -38,7 +118,7 @@ fn entries_left(left: usize, here: bool) -> usize
     left
 }
 
-pub fn same_slice(tell: Tell, what: &[u8], case: &[u8], at: usize, came: &[u64]) -> bool {
+fn same_slice(tell: Tell, what: &[u8], case: &[u8], at: usize, came: &[u64]) -> bool {
     let mut from = after(case, at, 4);
     let mut left = word(case, at);
     let mut i: usize = 0;
@@ -69,30 +149,42 @@ fn widen(from: &[u16], to: &mut [u64]) {
     }
 }
 
-fn same_table(tell: Tell, case: &[u8], at: usize, came: &[u16]) -> bool {
+fn same_table(tell: Tell, case: &[u8], given: usize, at: usize, came: &[u16]) -> bool {
+    let n = of_places(word(case, given), came);
     let mut lanes = [0u64; 258];
-    widen(came, &mut lanes);
+    widen(&came[..n], &mut lanes);
     same_slice(tell, b"table entry", case, at, &lanes)
 }
 
-// Five contents, one after the other.
+// Whether as much of the storage as was given is as expected.
+fn same_lent(tell: Tell, what: &[u8], case: &[u8], given: usize, at: usize, came: &[u64]) -> bool {
+    let n = of_lanes(word(case, given), came);
+    same_slice(tell, what, case, at, &came[..n])
+}
+
+// Whether the five are as expected from a place on.
 pub fn same_slices(
     tell: Tell,
     case: &[u8],
-    at: usize,
-    tape: &[u64],
-    register: &[u64],
-    table: &[u16],
-    channel: &[u64],
-    output: &[u64],
+    expected: usize,
+    tape: &[u64; 4096],
+    register: &[u64; 1026],
+    table: &[u16; 258],
+    channel: &[u64; 258],
+    output: &[u64; 4096],
 ) -> bool {
-    let at_register = after_contents(case, at);
-    let at_table = after_contents(case, at_register);
-    let at_channel = after_contents(case, at_table);
-    let at_output = after_contents(case, at_channel);
-    same_slice(tell, b"cell", case, at, tape)
-        && same_slice(tell, b"lane", case, at_register, register)
-        && same_table(tell, case, at_table, table)
-        && same_slice(tell, b"channel place", case, at_channel, channel)
-        && same_slice(tell, b"output", case, at_output, output)
+    let given = given_at(case);
+    let at = expected_at(case, expected);
+    same_lent(tell, b"cell", case, given.tape, at.tape, tape)
+        && same_lent(tell, b"lane", case, given.register, at.register, register)
+        && same_table(tell, case, given.table, at.table, table)
+        && same_lent(
+            tell,
+            b"channel place",
+            case,
+            given.channel,
+            at.channel,
+            channel,
+        )
+        && same_lent(tell, b"output", case, given.output, at.output, output)
 }

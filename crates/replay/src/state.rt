@@ -1,10 +1,11 @@
 // The machine of a case: twelve numbers, the saved calls and the saved pointers.
-ghost use Prim.Native.Nat.{_≤_};
+ghost use Prim.Native.Nat.{_<_, _≤_};
 use crate::list::after;
 use crate::list::word;
+use crate::list::word_on;
 use crate::tell::Tell;
+use hops::place::Place;
 use machine::machine::Machine;
-use machine_ops::place::Place;
 
 // How many entries of a stack are given that is said to hold n.
 fn given(n: usize) -> usize
@@ -16,62 +17,97 @@ fn given(n: usize) -> usize
     n
 }
 
-// Where the saved pointers of the machine at a place begin, and the place after them.
+// Where the saved calls and the saved pointers of the machine at a place begin, and the place after them.
+fn at_calls(case: &[u8], at: usize) -> usize {
+    after(case, at, 48)
+}
+
 fn at_refs(case: &[u8], at: usize) -> usize {
-    after(
-        case,
-        after(case, at, 48),
-        4 * given(word(case, after(case, at, 40))),
-    )
+    after(case, at_calls(case, at), 4 * given(word_on(case, at, 40)))
 }
 
 pub fn after_machine(case: &[u8], at: usize) -> usize {
-    after(
-        case,
-        at_refs(case, at),
-        4 * given(word(case, after(case, at, 44))),
-    )
+    after(case, at_refs(case, at), 4 * given(word_on(case, at, 44)))
 }
 
-pub fn place_at(case: &[u8], at: usize) -> Place {
-    let halted = word(case, after(case, at, 12));
+fn place_at(case: &[u8], at: usize) -> Place {
     Place {
-        depth: word(case, after(case, at, 40)),
-        saved: word(case, after(case, at, 44)),
-        pointer: word(case, after(case, at, 4)),
-        position: word(case, at),
-        length: word(case, after(case, at, 8)),
-        lanes: word(case, after(case, at, 16)),
-        functions: word(case, after(case, at, 20)),
-        first: word(case, after(case, at, 24)),
-        waiting: word(case, after(case, at, 28)),
-        taken: word(case, after(case, at, 32)),
-        written: word(case, after(case, at, 36)),
-        halted: halted != 0,
+        depth: word_on(case, at, 40),
+        saved: word_on(case, at, 44),
+        pointer: word_on(case, at, 4),
+        position: word_on(case, at, 0),
+        length: word_on(case, at, 8),
+        lanes: word_on(case, at, 16),
+        functions: word_on(case, at, 20),
+        first: word_on(case, at, 24),
+        waiting: word_on(case, at, 28),
+        taken: word_on(case, at, 32),
+        written: word_on(case, at, 36),
+        halted: word_on(case, at, 12) != 0,
     }
 }
 
-fn calls_at(case: &[u8], at: usize, n: usize, calls: &mut [u16; 256]) {
-    let mut from = after(case, at, 48);
+// The two stacks of a machine.
+enum Stack {
+    Calls,
+    Pointers,
+}
+
+// The entry of a stack at a place of a case.
+fn given_entry(case: &[u8], at: usize, stack: Stack) -> usize {
+    match stack {
+        Stack::Calls => word(case, at) % 65536,
+        Stack::Pointers => word(case, at),
+    }
+}
+
+fn call(x: u16) -> usize {
+    x as usize
+}
+
+fn pointer(x: u32) -> usize {
+    x as usize
+}
+
+// Entry i of a machine's stack; then the same entry set.
+fn saved_entry(calls: &[u16; 256], refs: &[u32; 256], stack: Stack, i: usize) -> usize
+    requires { ⌜ i < 256 ⌝ }
+{
+    match stack {
+        Stack::Calls => call(calls[i]),
+        Stack::Pointers => pointer(refs[i]),
+    }
+}
+
+fn save_entry(calls: &mut [u16; 256], refs: &mut [u32; 256], stack: Stack, i: usize, entry: usize)
+    requires { ⌜ i < 256 ⌝ }
+{
+    match stack {
+        Stack::Calls => {
+            calls[i] = (entry % 65536) as u16;
+        }
+        Stack::Pointers => {
+            refs[i] = (entry % 4294967296) as u32;
+        }
+    }
+}
+
+// Sets n entries of a stack to those from a place on.
+fn save_stack(
+    case: &[u8],
+    at: usize,
+    stack: Stack,
+    n: usize,
+    calls: &mut [u16; 256],
+    refs: &mut [u32; 256],
+) {
+    let mut from = at;
     let mut i: usize = 0;
     while i < n {
         if 256 <= i {
             return;
         }
-        calls[i] = (word(case, from) % 65536) as u16;
-        from = after(case, from, 4);
-        i += 1;
-    }
-}
-
-fn refs_at(case: &[u8], at: usize, n: usize, refs: &mut [u32; 256]) {
-    let mut from = at_refs(case, at);
-    let mut i: usize = 0;
-    while i < n {
-        if 256 <= i {
-            return;
-        }
-        refs[i] = word(case, from) as u32;
+        save_entry(calls, refs, stack, i, given_entry(case, from, stack));
         from = after(case, from, 4);
         i += 1;
     }
@@ -81,8 +117,22 @@ pub fn machine_at(case: &[u8], at: usize) -> Machine {
     let place = place_at(case, at);
     let mut calls = [0u16; 256];
     let mut refs = [0u32; 256];
-    calls_at(case, at, place.depth, &mut calls);
-    refs_at(case, at, place.saved, &mut refs);
+    save_stack(
+        case,
+        at_calls(case, at),
+        Stack::Calls,
+        place.depth,
+        &mut calls,
+        &mut refs,
+    );
+    save_stack(
+        case,
+        at_refs(case, at),
+        Stack::Pointers,
+        place.saved,
+        &mut calls,
+        &mut refs,
+    );
     Machine {
         calls: calls,
         refs: refs,
@@ -116,38 +166,31 @@ fn same_place(tell: Tell, e: Place, m: Place) -> bool {
     same_position(tell, e, m) && same_use(tell, e, m) && same_counts(tell, e, m)
 }
 
-fn call(x: u16) -> usize {
-    x as usize
-}
-
-fn pointer(x: u32) -> usize {
-    x as usize
-}
-
-// The first n entries of the stacks.
-fn same_calls(tell: Tell, e: &[u16; 256], m: &[u16; 256], n: usize) -> bool {
+// Whether n entries of a stack are those from a place on.
+fn same_stack(
+    tell: Tell,
+    what: &[u8],
+    case: &[u8],
+    at: usize,
+    stack: Stack,
+    n: usize,
+    calls: &[u16; 256],
+    refs: &[u32; 256],
+) -> bool {
+    let mut from = at;
     let mut i: usize = 0;
     while i < n {
         if 256 <= i {
             return true;
         }
-        if !tell.same(b"a saved call", call(e[i]), call(m[i])) {
+        if !tell.same(
+            what,
+            given_entry(case, from, stack),
+            saved_entry(calls, refs, stack, i),
+        ) {
             return false;
         }
-        i += 1;
-    }
-    true
-}
-
-fn same_refs(tell: Tell, e: &[u32; 256], m: &[u32; 256], n: usize) -> bool {
-    let mut i: usize = 0;
-    while i < n {
-        if 256 <= i {
-            return true;
-        }
-        if !tell.same(b"a saved pointer", pointer(e[i]), pointer(m[i])) {
-            return false;
-        }
+        from = after(case, from, 4);
         i += 1;
     }
     true
@@ -155,18 +198,28 @@ fn same_refs(tell: Tell, e: &[u32; 256], m: &[u32; 256], n: usize) -> bool {
 
 // Whether the machine is the one at a place.
 pub fn same_machine(tell: Tell, case: &[u8], at: usize, m: Machine) -> bool {
-    let e = machine_at(case, at);
-    let expected = e.place;
     let came = m.place;
-    if !same_place(tell, expected, came) {
-        return false;
-    }
-    let expected_calls = e.calls;
     let calls = m.calls;
-    if !same_calls(tell, &expected_calls, &calls, came.depth) {
-        return false;
-    }
-    let expected_refs = e.refs;
     let refs = m.refs;
-    same_refs(tell, &expected_refs, &refs, came.saved)
+    same_place(tell, place_at(case, at), came)
+        && same_stack(
+            tell,
+            b"a saved call",
+            case,
+            at_calls(case, at),
+            Stack::Calls,
+            came.depth,
+            &calls,
+            &refs,
+        )
+        && same_stack(
+            tell,
+            b"a saved pointer",
+            case,
+            at_refs(case, at),
+            Stack::Pointers,
+            came.saved,
+            &calls,
+            &refs,
+        )
 }

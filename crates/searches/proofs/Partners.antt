@@ -7,10 +7,10 @@ use Prim.Native.Nat.{ℕ, zero, suc, _+_, _≤_, _<_}
 use native.Mathlib.Omega.{arith}
 use lib.Dec.{eqb}
 use lib.ListN.{length, getD, set, replicate, length-set, length-replicate}
-use borrow.Author.Tests.{ne-eqb}
+use borrow.Author.Tests.{lt-ltb, le-ltb, eq-eqb, ne-eqb}
 use lib.Seq.{getD-set-same, getD-set-other}
 use Rattle.lanes.proofs.Ints.{lt-or-ge}
-use Rattle.searches.specs.Found.{pick, endOf, elseOf, openOf, partnerOf, Noted}
+use Rattle.searches.specs.Found.{pick, endOf, elseOf, openOf, partnerOf, Noted, lookedUp}
 
 module _ (ks : List ℕ) (i w : ℕ) (p : w ≡ partnerOf ks i) where
   pub of-function : getD ks i 0 ≡ 2 → w ≡ endOf ks (i + 1)
@@ -73,3 +73,17 @@ noted-on ks ps i v h n e = record {
     other j l z ne =
         let o : getD (set ps i v) j 0 ≡ getD ps j 0 = getD-set-other ps i j v 0 ne in
         o ∙ n .each j l (omega (arith, o, z))
+
+-- what a look-up leaves: of an op beyond End's row, of one met for the first time, of one that was noted
+module _ (ks ps : List ℕ) (i : ℕ) where
+  pub looked-beyond : 8 < getD ks i 0 → ps ≡ lookedUp ks ps i
+  unfolding lookedUp pick
+  looked-beyond l = rw (lt-ltb 8 (getD ks i 0) l) refl
+
+  pub looked-first : getD ks i 0 ≤ 8 → getD ps i 0 ≡ 0 → (v : ℕ) → v ≡ partnerOf ks i + 1 → set ps i v ≡ lookedUp ks ps i
+  unfolding lookedUp pick
+  looked-first l z v e = rw (le-ltb 8 (getD ks i 0) l, eq-eqb (getD ps i 0) 0 z, e) refl
+
+  pub looked-again : getD ks i 0 ≤ 8 → (getD ps i 0 ≡ 0 → ⊥) → ps ≡ lookedUp ks ps i
+  unfolding lookedUp pick
+  looked-again l z = rw (le-ltb 8 (getD ks i 0) l, ne-eqb (getD ps i 0) 0 z) refl

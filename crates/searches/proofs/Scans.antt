@@ -1,5 +1,5 @@
 -- A turn of each search: it stops at this op, or goes on at the next one with the depth that the op leaves. One set of laws serves the
--- searches that go forward, to an End, to an Else and to the k-th mark; another the search that goes back. Assumes nothing.
+-- searches that go forward, to an End or Else and to the k-th mark; another the search that goes back. Assumes nothing.
 use mathlib.Core.Path.{_≡_, _∙_, refl, ap, sym}
 use mathlib.Core.Bool.{Bool, true, false}
 use mathlib.Core.List.{List, [], _∷_, _++_, map, reverse, reverseAux}
@@ -13,24 +13,24 @@ use lib.Seq.{take-suc, drop-cons, length-take-le}
 use Rattle.ops.specs.Op.{Mark}
 use Rattle.ops.specs.Op.Mark.{up, down, mid, flat}
 use Rattle.machine_model.specs.Scan.{toEnd, toElse, toOpen, kth}
-use Rattle.searches.specs.Found.{pick, rowMark, placeOr, depthAfter, closesAt, turnsAt, depthBefore, opensAt, hitsAt, lessAfter}
+use Rattle.searches.specs.Found.{pick, rowMark, placeOr, depthAfter, leavesAt, depthBefore, opensAt, hitsAt, lessAfter, endOf, elseOf, forwardOf}
 
 -- ---- what an op does at a depth, as the code tests it
 
-pub closes-down : (d : ℕ) → eqb d 0 ≡ closesAt down d
-unfolding closesAt
-closes-down zero = refl
-closes-down (suc d) = eqb·suc-zero d
+pub leaves-down : (e : Bool) (d : ℕ) → eqb d 0 ≡ leavesAt e down d
+unfolding leavesAt
+leaves-down e zero = refl
+leaves-down e (suc d) = eqb·suc-zero d
 
-pub turns-down : (d : ℕ) → eqb d 0 ≡ turnsAt down d
-unfolding turnsAt
-turns-down zero = refl
-turns-down (suc d) = eqb·suc-zero d
+pub leaves-mid : (d : ℕ) → eqb d 0 ≡ leavesAt true mid d
+unfolding leavesAt
+leaves-mid zero = refl
+leaves-mid (suc d) = eqb·suc-zero d
 
-pub turns-mid : (d : ℕ) → eqb d 0 ≡ turnsAt mid d
-unfolding turnsAt
-turns-mid zero = refl
-turns-mid (suc d) = eqb·suc-zero d
+pub passes-mid : (d : ℕ) → false ≡ leavesAt false mid d
+unfolding leavesAt
+passes-mid zero = refl
+passes-mid (suc d) = refl
 
 pub opens-up : (d : ℕ) → eqb d 0 ≡ opensAt up d
 unfolding opensAt
@@ -65,17 +65,9 @@ opening P u f false true c = u
 opening P u f false false true = u
 opening P u f false false false = f
 
-pub closes-other : (k d : ℕ) → eqb k 8 ≡ false → false ≡ closesAt (rowMark k) d
-unfolding closesAt rowMark pick
-closes-other k d e = rw e (by (eqb k 7))
-  where
-    by : (b : Bool) → false ≡ closesAt (pick b mid (pick (eqb k 2) up (pick (eqb k 5) up (pick (eqb k 6) up flat)))) d
-    by true = refl
-    by false = opening (λ m. false ≡ closesAt m d) refl refl (eqb k 2) (eqb k 5) (eqb k 6)
-
-pub turns-other : (k d : ℕ) → eqb k 8 ≡ false → eqb k 7 ≡ false → false ≡ turnsAt (rowMark k) d
-unfolding turnsAt rowMark pick
-turns-other k d e f = rw (e, f) (opening (λ m. false ≡ turnsAt m d) refl refl (eqb k 2) (eqb k 5) (eqb k 6))
+pub leaves-other : (e : Bool) (k d : ℕ) → eqb k 8 ≡ false → eqb k 7 ≡ false → false ≡ leavesAt e (rowMark k) d
+unfolding leavesAt rowMark pick
+leaves-other e k d z f = rw (z, f) (opening (λ m. false ≡ leavesAt e m d) refl refl (eqb k 2) (eqb k 5) (eqb k 6))
 
 pub before-other : (k : ℕ) → eqb k 8 ≡ false → eqb k 7 ≡ false → 0 ≡ depthBefore (rowMark k) 0
 unfolding depthBefore rowMark pick
@@ -97,34 +89,32 @@ pub record Turning {A : Type 0} (to : ℕ → ℕ → List A → Option ℕ) (st
   pub over : (p d : ℕ) → to p d [] ≡ none
   pub turn : (p d : ℕ) (m : A) (ms : List A) → to p d (m ∷ ms) ≡ pick (stop m d) (some p) (to (suc p) (go m d) ms)
 
-pub end-turning : Turning toEnd closesAt depthAfter
-unfolding toEnd pick closesAt depthAfter
-end-turning = record { over = over; turn = turn }
+-- the search forward over the marks of a patch
+unfoldable pub toLeave : Bool → ℕ → ℕ → List Mark → Option ℕ
+toLeave true p d ms = toElse p d ms
+toLeave false p d ms = toEnd p d ms
+
+pub forward-turning : (e : Bool) → Turning (toLeave e) (leavesAt e) depthAfter
+unfolding toLeave toElse toEnd pick leavesAt depthAfter
+forward-turning e = record { over = over e; turn = turn e }
   where
-    over : (p d : ℕ) → toEnd p d [] ≡ none
-    over p d = refl
+    over : (e : Bool) (p d : ℕ) → toLeave e p d [] ≡ none
+    over true p d = refl
+    over false p d = refl
 
-    turn : (p d : ℕ) (m : Mark) (ms : List Mark) → toEnd p d (m ∷ ms) ≡ pick (closesAt m d) (some p) (toEnd (suc p) (depthAfter m d) ms)
-    turn p d up ms = refl
-    turn p zero down ms = refl
-    turn p (suc d) down ms = refl
-    turn p d mid ms = refl
-    turn p d flat ms = refl
-
-pub else-turning : Turning toElse turnsAt depthAfter
-unfolding toElse pick turnsAt depthAfter
-else-turning = record { over = over; turn = turn }
-  where
-    over : (p d : ℕ) → toElse p d [] ≡ none
-    over p d = refl
-
-    turn : (p d : ℕ) (m : Mark) (ms : List Mark) → toElse p d (m ∷ ms) ≡ pick (turnsAt m d) (some p) (toElse (suc p) (depthAfter m d) ms)
-    turn p d up ms = refl
-    turn p zero down ms = refl
-    turn p (suc d) down ms = refl
-    turn p zero mid ms = refl
-    turn p (suc d) mid ms = refl
-    turn p d flat ms = refl
+    turn : (e : Bool) (p d : ℕ) (m : Mark) (ms : List Mark) → toLeave e p d (m ∷ ms) ≡ pick (leavesAt e m d) (some p) (toLeave e (suc p) (depthAfter m d) ms)
+    turn true p d up ms = refl
+    turn true p zero down ms = refl
+    turn true p (suc d) down ms = refl
+    turn true p zero mid ms = refl
+    turn true p (suc d) mid ms = refl
+    turn true p d flat ms = refl
+    turn false p d up ms = refl
+    turn false p zero down ms = refl
+    turn false p (suc d) down ms = refl
+    turn false p zero mid ms = refl
+    turn false p (suc d) mid ms = refl
+    turn false p d flat ms = refl
 
 pub mark-turning : Turning kth hitsAt lessAfter
 unfolding kth pick hitsAt lessAfter
@@ -169,6 +159,12 @@ module _ {A : Type 0} {to : ℕ → ℕ → List A → Option ℕ} {stop : A →
   from-none h =
       let l : length (map row ks) ≡ length ks = length-map ks row in
       rw (drop-of-length-le (map row ks) {i = i} (omega arith), t .over i d) refl
+
+-- the search forward from a place, as the partner's definitions say it
+pub starts : (e : Bool) (ks : List ℕ) (from : ℕ) → searched (toLeave e) rowMark ks from 0 ≡ forwardOf e ks from
+unfolding searched toLeave forwardOf endOf elseOf
+starts true ks from = refl
+starts false ks from = refl
 
 -- ---- backwards
 

@@ -9,7 +9,7 @@ use lib.ListN.{length, getD, set, take, drop}
 use lib.Dec.{ltb, eqb}
 use Rattle.ops.specs.Op.{Mark}
 use Rattle.ops.specs.Op.Mark.{up, down, mid, flat}
-use Rattle.ops.specs.Storage.{fill}
+use Rattle.byte_fields.specs.Storage.{fill}
 use Rattle.machine_model.specs.Scan.{toEnd, toElse, toOpen, kth}
 use Rattle.machine_model.specs.Step.{enter}
 
@@ -31,7 +31,7 @@ abbrev pub placeOr : ℕ → Option ℕ → ℕ
 placeOr n none = n
 placeOr n (some p) = p
 
--- the depth after an op, and whether the op is an End, or an Else, at depth 0
+-- the depth after an op, and whether the search forward ends at it: at an End at depth 0, and where the Else counts at an Else at depth 0
 unfoldable pub depthAfter : Mark → ℕ → ℕ
 depthAfter up d = suc d
 depthAfter down zero = zero
@@ -39,20 +39,13 @@ depthAfter down (suc d) = d
 depthAfter mid d = d
 depthAfter flat d = d
 
-unfoldable pub closesAt : Mark → ℕ → Bool
-closesAt up d = false
-closesAt down zero = true
-closesAt down (suc d) = false
-closesAt mid d = false
-closesAt flat d = false
-
-unfoldable pub turnsAt : Mark → ℕ → Bool
-turnsAt up d = false
-turnsAt down zero = true
-turnsAt down (suc d) = false
-turnsAt mid zero = true
-turnsAt mid (suc d) = false
-turnsAt flat d = false
+unfoldable pub leavesAt : Bool → Mark → ℕ → Bool
+leavesAt e up d = false
+leavesAt e down zero = true
+leavesAt e down (suc d) = false
+leavesAt e mid zero = e
+leavesAt e mid (suc d) = false
+leavesAt e flat d = false
 
 -- the same going back
 unfoldable pub depthBefore : Mark → ℕ → ℕ
@@ -93,6 +86,11 @@ openOf ks at = placeOr (length ks) (toOpen 0 (reverse (take at (map rowMark ks))
 unfoldable pub markOf : List ℕ → ℕ → ℕ
 markOf ks k = placeOr (length ks) (kth 0 k (map rowFunction ks))
 
+-- the search forward: to the Else or End where the Else counts, and to the End where it does not
+unfoldable pub forwardOf : Bool → List ℕ → ℕ → ℕ
+forwardOf true ks from = elseOf ks from
+forwardOf false ks from = endOf ks from
+
 -- the partner of the op at i: the End of a Function, a While and an Else, the Else or End of an If, the op that an End closes; 0 for any other
 unfoldable pub partnerOf : List ℕ → ℕ → ℕ
 unfolding pick
@@ -107,6 +105,11 @@ partnerOf ks i =
 pub record Noted (ks ps : List ℕ) : Type 0 where
   pub many : length ps ≡ 4096
   pub each : (i : ℕ) → i < length ks → 0 < getD ps i 0 → getD ps i 0 ≡ partnerOf ks i + 1
+
+-- the notes after op i was looked up: one more than its partner's place, where its row may have one and nothing was noted
+unfoldable pub lookedUp : List ℕ → List ℕ → ℕ → List ℕ
+unfolding pick
+lookedUp ks ps i = pick (ltb 8 (getD ks i 0)) ps (pick (eqb (getD ps i 0) 0) (set ps i (partnerOf ks i + 1)) ps)
 
 -- ---- the table: n places are counted in ts
 

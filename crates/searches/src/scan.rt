@@ -3,7 +3,7 @@
 ghost use mathlib.Core.Path.{_≡_};
 ghost use Prim.Native.Nat.{ℕ, _+_, _≤_, _<_};
 ghost use lib.ListN.{length};
-ghost use Rattle.searches.specs.Found.{rowMark, rowFunction, depthAfter, closesAt, turnsAt, depthBefore, opensAt, hitsAt, lessAfter, endOf, elseOf, openOf, markOf, partnerOf, Noted};
+ghost use Rattle.searches.specs.Found.{rowMark, rowFunction, depthAfter, leavesAt, depthBefore, opensAt, hitsAt, lessAfter, endOf, elseOf, openOf, markOf, forwardOf, partnerOf, Noted, lookedUp};
 
 // The depth after an op of row k.
 fn after(k: u8, d: usize) -> usize
@@ -31,25 +31,41 @@ fn after(k: u8, d: usize) -> usize
     d
 }
 
-fn closes(k: u8, d: usize) -> bool
-    ensures { λ r. ⌜ r ≡ closesAt (rowMark k) d ⌝ }
-{
-    if k == 8 {
-        return d == 0;
-    }
-    false
-}
-
-fn turns(k: u8, d: usize) -> bool
-    ensures { λ r. ⌜ r ≡ turnsAt (rowMark k) d ⌝ }
+// Whether the search forward ends at an op of row k: an End at depth 0, and with `either` an Else at depth 0 too.
+fn leaves(k: u8, d: usize, either: bool) -> bool
+    ensures { λ r. ⌜ r ≡ leavesAt either (rowMark k) d ⌝ }
 {
     if k == 8 {
         return d == 0;
     }
     if k == 7 {
-        return d == 0;
+        if either {
+            return d == 0;
+        }
+        return false;
     }
     false
+}
+
+// The search forward in the bracket open before `from`, to its End, or with `either` to its Else or End; the op count where there is none.
+fn forward(kinds: &[u8], from: usize, either: bool) -> usize
+    requires { ⌜ (from ≤ length (now kinds)) × (length (now kinds) ≤ 4096) ⌝ }
+    ensures { λ r. ⌜ (r ≡ forwardOf either (now (kinds .entry)) from) × (r ≤ length (now (kinds .entry))) ⌝ }
+{
+    let mut i = from;
+    let mut depth: usize = 0;
+    let found = 'scan: loop {
+        if kinds.len() <= i {
+            break 'scan kinds.len();
+        }
+        let k = kinds[i];
+        if leaves(k, depth, either) {
+            break 'scan i;
+        }
+        depth = after(k, depth);
+        i += 1;
+    };
+    found
 }
 
 // The End that closes the bracket open before `from`; the op count where there is none.
@@ -57,20 +73,7 @@ fn jmp_to_end(kinds: &[u8], from: usize) -> usize
     requires { ⌜ (from ≤ length (now kinds)) × (length (now kinds) ≤ 4096) ⌝ }
     ensures { λ r. ⌜ (r ≡ endOf (now (kinds .entry)) from) × (r ≤ length (now (kinds .entry))) ⌝ }
 {
-    let mut i = from;
-    let mut depth: usize = 0;
-    let found = 'scan: loop {
-        if kinds.len() <= i {
-            break 'scan kinds.len();
-        }
-        let k = kinds[i];
-        if closes(k, depth) {
-            break 'scan i;
-        }
-        depth = after(k, depth);
-        i += 1;
-    };
-    found
+    forward(kinds, from, false)
 }
 
 // The Else at depth one, or the End, of the If before `from`; the op count where there is none.
@@ -78,20 +81,7 @@ fn jmp_to_else(kinds: &[u8], from: usize) -> usize
     requires { ⌜ (from ≤ length (now kinds)) × (length (now kinds) ≤ 4096) ⌝ }
     ensures { λ r. ⌜ (r ≡ elseOf (now (kinds .entry)) from) × (r ≤ length (now (kinds .entry))) ⌝ }
 {
-    let mut i = from;
-    let mut depth: usize = 0;
-    let found = 'scan: loop {
-        if kinds.len() <= i {
-            break 'scan kinds.len();
-        }
-        let k = kinds[i];
-        if turns(k, depth) {
-            break 'scan i;
-        }
-        depth = after(k, depth);
-        i += 1;
-    };
-    found
+    forward(kinds, from, true)
 }
 
 fn opens(k: u8, d: usize) -> bool
@@ -157,7 +147,7 @@ fn get_matching_for_end(kinds: &[u8], at: usize) -> usize
 }
 
 // Where the op at i may lead: the End, the Else or the opening op that goes with it; 0 for an op that does not steer by a partner.
-pub fn partner(kinds: &[u8], i: usize) -> usize
+fn partner(kinds: &[u8], i: usize) -> usize
     requires { ⌜ (i < length (now kinds)) × (length (now kinds) ≤ 4096) ⌝ }
     ensures { λ r. ⌜ (r ≡ partnerOf (now (kinds .entry)) i) × (r ≤ 4096) ⌝ }
 {
@@ -181,7 +171,7 @@ fn wide(x: u16) -> usize
 // The partner of the op at i: as it was noted, or searched for now and noted. The rows beyond End's have none.
 pub fn look_up(kinds: &[u8], partners: &mut [u16; 4096], i: usize) -> usize
     requires { ⌜ (i < length (now kinds)) × (length (now kinds) ≤ 4096) × Noted (now kinds) (now partners) ⌝ }
-    ensures { λ r. ⌜ (r ≡ partnerOf (now (kinds .entry)) i) × Noted (now (kinds .entry)) (now (partners .exit)) ⌝ }
+    ensures { λ r. ⌜ (r ≡ partnerOf (now (kinds .entry)) i) × (now (partners .exit) ≡ lookedUp (now (kinds .entry)) (now (partners .entry)) i) × Noted (now (kinds .entry)) (now (partners .exit)) ⌝ }
 {
     let k = kinds[i];
     if 8 < k {

@@ -3,8 +3,8 @@ use Prim.Native.Nat.{_+_, _≤_}
 use mathlib.Core.Path.{refl, _∙_}
 use native.Mathlib.Omega.{arith}
 use lib.ListN.{length}
-use Rattle.ops.specs.Write.{le16, le32, le64}
-use Rattle.ops.proofs.Storage.{placed-then}
+use Rattle.byte_fields.specs.Bytes.{le16, le32, le64}
+use Rattle.byte_fields.proofs.Storage.{placed-then}
 use borrow.Author.Needs.{needs}
 use Rattle.joining.proofs.write.put_u64.Statement.{statement}
 use Rattle.joining.proofs.write.put_u64.Tie as tie

@@ -4,7 +4,7 @@ use mathlib.Core.Path.{_≡_, refl}
 use native.Mathlib.Omega.{arith}
 use borrow.Author.Needs.{needs}
 use lib.ListN.{length}
-use Rattle.ops.specs.Write.{placed}
+use Rattle.byte_fields.specs.Storage.{placed}
 use Rattle.joining.specs.Stack.{stack, file}
 use Rattle.joining.proofs.Records.{none-written, more-written, all-written, written-room, within-at}
 use Rattle.joining.proofs.write.write_all.Statement.{statement}

@@ -1,6 +1,6 @@
 -- `machine_step::family::family_of` meets its contract: each arm is the definition's own test. Assumes nothing.
 use Rattle.machine_step.specs.Family.{familyOf}
-use Rattle.machine_ops.specs.Place.{pick}
+use Rattle.hops.specs.Place.{pick}
 use borrow.Author.Tests.{ne-eqb}
 use mathlib.Core.Path.{refl}
 use Rattle.machine_step.proofs.family.family_of.Statement.{statement}

@@ -1,7 +1,7 @@
 -- `machine_step::step::op` meets its contract. Assumes nothing.
 use Rattle.machine_step.proofs.Rows.{offset-row}
 use Rattle.machine_step.specs.Step.{opOf}
-use Rattle.machine_ops.specs.Place.{pick}
+use Rattle.hops.specs.Place.{pick}
 use borrow.Author.Tests.{ne-eqb}
 use mathlib.Core.Path.{_∙_, refl, sym}
 use borrow.Author.Needs.{needs}

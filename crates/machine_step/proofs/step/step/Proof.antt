@@ -1,6 +1,6 @@
 -- `machine_step::step::step` meets its contract. Assumes nothing.
 use Rattle.machine_step.specs.Step.{stepOf}
-use Rattle.machine_ops.specs.Place.{pick}
+use Rattle.hops.specs.Place.{pick}
 use borrow.Author.Tests.{lt-ltb, le-ltb}
 use mathlib.Core.Path.{refl}
 use borrow.Author.Needs.{needs}

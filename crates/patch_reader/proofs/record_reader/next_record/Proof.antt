@@ -2,7 +2,7 @@
 -- The reader is Copy: what it owns is had twice, one copy is kept whole for the exit, and of the other what bytes owns goes to the callee, beside the lifetime's token, which comes back.
 -- Assumes nothing but `record_from`'s contract, which is proved.
 use mathlib.Core.Path.{_≡_, refl}
-use Prim.Native.Nat.{_<_, _^_}
+use Prim.Native.Nat.{ℕ, _<_, _^_}
 use mathlib.Core.List.{[], _∷_}
 use lib.Dec.{T as Holds}
 use lib.ListN.{length}
@@ -82,6 +82,13 @@ module _ {M : Type 1} (𝓤 : URA M) (H : Heap 𝓤) (A : Atoms 𝓤) (W : Given
   abbrev found : Record
   found = recordFrom (now (d .bytes)) (d .at)
 
+  -- the place that the callee is passed, and what it answers
+  abbrev place : ℕ
+  place = d .at
+
+  abbrev told : Record
+  told = recordFrom (now (d .bytes)) place
+
   abbrev Post : Val → SProp 𝓤
   Post = walkOf 𝓤 H A next-record.ended stayed (next-record.clauses 𝓤 H A mem run) .post (((κ, tt), (q, tt), tt, (d, tt), (mach ∷ [], tt)), tt)
 
@@ -100,27 +107,27 @@ module _ {M : Type 1} (𝓤 : URA M) (H : Heap 𝓤) (A : Atoms 𝓤) (W : Given
 
   -- what the callee is passed
   abbrev passed : Vals record-from.signature (κ, tt)
-  passed = (v ∷ [], (vint w64 (d .at) ∷ [], tt))
+  passed = (v ∷ [], (vint w64 place ∷ [], tt))
 
   abbrev to : RecordFrom 𝓤 H A mem run .Ghost
-  to = (((κ, tt), (q, tt), tt, (d .bytes, (d .at, tt)), passed), tt)
+  to = (((κ, tt), (q, tt), tt, (d .bytes, (place, tt)), passed), tt)
 
-  asked : ent 𝓤 (onEntry 𝓤 H A record-from.signature (κ, tt) (q, tt) (d .bytes, (d .at, tt)) passed) (RecordFrom 𝓤 H A mem run .pre to)
-  asked = qed W ((‵ (flft κ q) ⊛ ‵ ftrue) ∷ ‵ (owns (ShrSlice (named 0) κ u8 ∷ usize ∷ []) (d .bytes, (d .at, tt)) passed) ∷ []) ∵ join ! $ frame ! $ done !
+  asked : ent 𝓤 (onEntry 𝓤 H A record-from.signature (κ, tt) (q, tt) (d .bytes, (place, tt)) passed) (RecordFrom 𝓤 H A mem run .pre to)
+  asked = qed W ((‵ (flft κ q) ⊛ ‵ ftrue) ∷ ‵ (owns (ShrSlice (named 0) κ u8 ∷ usize ∷ []) (d .bytes, (place, tt)) passed) ∷ []) ∵ join ! $ frame ! $ done !
 
   -- what the struct owns gives what the callee asks, and is kept
-  apart : d .at < 2 ^ 64 → ent 𝓤 (onEntry 𝓤 H A next-record.signature (κ, tt) (q, tt) (d, tt) (mach ∷ [], tt)) (sep 𝓤 (RecordFrom 𝓤 H A mem run .pre to) (sem 𝓤 H A Own))
+  apart : place < 2 ^ 64 → ent 𝓤 (onEntry 𝓤 H A next-record.signature (κ, tt) (q, tt) (d, tt) (mach ∷ [], tt)) (sep 𝓤 (RecordFrom 𝓤 H A mem run .pre to) (sem 𝓤 H A Own))
   apart fits =
       qed W ((‵ (flft κ q) ⊛ ‵ ftrue) ∷ ‵ (owns (B (κ, tt) ∷ []) (d, tt) (mach ∷ [], tt)) ∷ []) ∵
       move ! (1 ∷ []) $ fsplit ! $ move ! (1 ∷ []) $ drop ! $ use1 W (‵ Own ⊛ ‵ Own) (LL.copy D (T′.the-copy (namedLft 1 0 tt (κ, tt))) 𝓤 H A W .twice d (mach ∷ [])) $ split ! $
       use1 W (given (mach ∷ [] ≡ mach ∷ []) (‵ (all-own (D .parts) L vd))) (own-open 𝓤 H A W D L vd mach) $ learn ! (λ _. use1 W (‵ (ownAt (D .parts) L 0 (d .bytes)) ⊛ ‵ (rest (D .parts) L 0 vd)) (own-out 𝓤 H A W (D .parts) L 0 vd) $ split ! $
       -- [what bytes owns; what at owns; what the struct owns; the token]
-      move ! (1 ∷ []) $ drop ! $ nothing ! $ owned ! usize (Is usize) (uint-makes 𝓤 H A W w64) (d .at) _ (refl, fits) $ fjoin ! $ move ! (1 ∷ 0 ∷ []) $ fjoin ! $
+      move ! (1 ∷ []) $ drop ! $ nothing ! $ owned ! usize (Is usize) (uint-makes 𝓤 H A W w64) place _ (refl, fits) $ fjoin ! $ move ! (1 ∷ 0 ∷ []) $ fjoin ! $
       move ! (2 ∷ 0 ∷ []) $ use2 W (raw (RecordFrom 𝓤 H A mem run .pre to)) asked $ frame ! $ done !)
 
   -- of the callee's `ensured`, the clause alone: it has no `&mut`, so what is said of last values is dropped
-  said : (r : Record) → ent 𝓤 (ensured 𝓤 H A record-from.ended (record-from.clauses 𝓤 H A mem run) (κ, tt) (d .bytes, (d .at, tt)) tt r) (fact 𝓤 (r ≡ found))
-  said r = exE 𝓤 _ (λ ws. snd∗ 𝓤 (sem 𝓤 H A (lasts record-from.ended (κ, tt) (d .bytes, (d .at, tt)) ws)) (fact 𝓤 (r ≡ found)))
+  said : (r : Record) → ent 𝓤 (ensured 𝓤 H A record-from.ended (record-from.clauses 𝓤 H A mem run) (κ, tt) (d .bytes, (place, tt)) tt r) (fact 𝓤 (r ≡ told))
+  said r = exE 𝓤 _ (λ ws. snd∗ 𝓤 (sem 𝓤 H A (lasts record-from.ended (κ, tt) (d .bytes, (place, tt)) ws)) (fact 𝓤 (r ≡ told)))
 
   exits : (r : Record) (u : Val) → r ≡ found → ent 𝓤 (⋆ 𝓤 H A (‵ (S.the-row .own r (u ∷ [])) ∷ (‵ (flft κ q) ⊛ ‵ ftrue) ∷ ‵ Own ∷ [])) (Post u)
   exits r u e =
@@ -137,8 +144,8 @@ module _ {M : Type 1} (𝓤 : URA M) (H : Heap 𝓤) (A : Atoms 𝓤) (W : Given
         assigns ! (of-opd ! (load ! (from ! (fld ! refl (stop !))) (look-in ! 4 (sub ! 1 refl (whole !))))) (from ! (stop !)) (init ! 0 refl (tt, wt .1 .1 .0)) $
         move ! (8 ∷ []) $ use1 W (raw (RecordFrom 𝓤 H A mem run .pre to) ⊛ ‵ Own) (apart (wt .1 .1 .0 .fits)) $ split ! $
         calls-at ! fm (RecordFrom 𝓤 H A mem run) known to (and-then ! (load ! (from ! (stop !)) (look ! 4 refl)) (and-then ! (load ! (from ! (stop !)) (look ! 2 refl)) (no-more !))) (λ u.
-        use1 W (later (some (λ (r : Record). ((‵ (flft κ q) ⊛ ‵ ftrue) ⊛ ‵ (S.the-row .own r (u ∷ []))) ⊛ raw (ensured 𝓤 H A record-from.ended (record-from.clauses 𝓤 H A mem run) (κ, tt) (d .bytes, (d .at, tt)) tt r)))) (id⊢ 𝓤 _) $ await ! tt $ pick ! (λ r.
-        split ! $ move ! (1 ∷ []) $ use1 W (raw (fact 𝓤 (r ≡ found))) (said r) $ heard ! (r ≡ found) (λ e. split ! $ move ! (1 ∷ []) $
+        use1 W (later (some (λ (r : Record). ((‵ (flft κ q) ⊛ ‵ ftrue) ⊛ ‵ (S.the-row .own r (u ∷ []))) ⊛ raw (ensured 𝓤 H A record-from.ended (record-from.clauses 𝓤 H A mem run) (κ, tt) (d .bytes, (place, tt)) tt r)))) (id⊢ 𝓤 _) $ await ! tt $ pick ! (λ r.
+        split ! $ move ! (1 ∷ []) $ use1 W (raw (fact 𝓤 (r ≡ told))) (said r) $ heard ! (r ≡ told) (λ e. split ! $ move ! (1 ∷ []) $
         -- [the result; the token; what the struct owns; _3; …; _2; …; _1; …; room for _0; …]
         peeks ! S.the-row (Is S.the-row) (shows 𝓤 H A S.the-row) r (u ∷ []) (λ is.
         land ! (from ! (stop !)) (init ! 9 refl (EL.lawful S.the-type S′.the-laws 𝓤 H A W tt .typed r _ is .0)) $

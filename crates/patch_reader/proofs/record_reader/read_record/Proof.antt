@@ -91,6 +91,10 @@ module _ {M : Type 1} (𝓤 : URA M) (H : Heap 𝓤) (A : Atoms 𝓤) (W : Given
   abbrev found : Record
   found = recordFrom (now s) n
 
+  -- the place that the reader is moved to
+  abbrev place : ℕ
+  place = n
+
   -- the struct's type as a local of a body has it
   abbrev αᵉ : NamedLft
   αᵉ = record { mir = erased; lft = κ }
@@ -122,14 +126,14 @@ module _ {M : Type 1} (𝓤 : URA M) (H : Heap 𝓤) (A : Atoms 𝓤) (W : Given
 
   -- the call of `advanced`, at the struct r with the machine value u
   abbrev to-advanced : Reader → Val → Advanced 𝓤 H A mem run .Ghost
-  to-advanced r u = (((κ, tt), (q, tt), tt, (r, (n, tt)), (u ∷ [], (vint w64 n ∷ [], tt))), tt)
+  to-advanced r u = (((κ, tt), (q, tt), tt, (r, (place, tt)), (u ∷ [], (vint w64 place ∷ [], tt))), tt)
 
   goes-advanced : (r : Reader) (u : Val) → ent 𝓤 (⋆ 𝓤 H A (‵ (B (κ, tt) .own r (u ∷ [])) ∷ (‵ (flft κ q) ⊛ ‵ ftrue) ∷ [])) (Advanced 𝓤 H A mem run .pre (to-advanced r u))
   goes-advanced r u =
-      qed W (‵ (B (κ, tt) .own r (u ∷ [])) ∷ (‵ (flft κ q) ⊛ ‵ ftrue) ∷ []) ∵ nothing ! $ owned ! usize (Is usize) (uint-makes 𝓤 H A W w64) n _ (refl, fits) $ fjoin ! $ move ! (1 ∷ 0 ∷ []) $ fjoin ! $ move ! (1 ∷ 0 ∷ []) $ join ! $ frame ! $ done !
+      qed W (‵ (B (κ, tt) .own r (u ∷ [])) ∷ (‵ (flft κ q) ⊛ ‵ ftrue) ∷ []) ∵ nothing ! $ owned ! usize (Is usize) (uint-makes 𝓤 H A W w64) place _ (refl, fits) $ fjoin ! $ move ! (1 ∷ 0 ∷ []) $ fjoin ! $ move ! (1 ∷ 0 ∷ []) $ join ! $ frame ! $ done !
 
-  advanced-said : (r t : Reader) → ent 𝓤 (ensured 𝓤 H A advanced.ended (advanced.clauses 𝓤 H A mem run) (κ, tt) (r, (n, tt)) tt t) (fact 𝓤 ((t .bytes ≡ r .bytes) × (t .at ≡ n)))
-  advanced-said r t = exE 𝓤 _ (λ ws. snd∗ 𝓤 (sem 𝓤 H A (lasts advanced.ended (κ, tt) (r, (n, tt)) ws)) (fact 𝓤 ((t .bytes ≡ r .bytes) × (t .at ≡ n))))
+  advanced-said : (r t : Reader) → ent 𝓤 (ensured 𝓤 H A advanced.ended (advanced.clauses 𝓤 H A mem run) (κ, tt) (r, (place, tt)) tt t) (fact 𝓤 ((t .bytes ≡ r .bytes) × (t .at ≡ place)))
+  advanced-said r t = exE 𝓤 _ (λ ws. snd∗ 𝓤 (sem 𝓤 H A (lasts advanced.ended (κ, tt) (r, (place, tt)) ws)) (fact 𝓤 ((t .bytes ≡ r .bytes) × (t .at ≡ place))))
 
   -- the call of `next_record`, at the struct r with the machine value u
   abbrev to-next-record : Reader → Val → Next 𝓤 H A mem run .Ghost
@@ -162,8 +166,8 @@ module _ {M : Type 1} (𝓤 : URA M) (H : Heap 𝓤) (A : Atoms 𝓤) (W : Given
         use2 W (raw (Advanced 𝓤 H A mem run .pre (to-advanced r u))) (goes-advanced r u) $
         -- [what `advanced` asks; what s owns; what n owns; _4; …; room for _3; …; _2; …; _1; …; room for _0; …]
         calls-at ! fm (Advanced 𝓤 H A mem run) known-advanced (to-advanced r u) (and-then ! (load ! (from ! (stop !)) (look ! 3 refl)) (and-then ! (load ! (from ! (stop !)) (look ! 7 refl)) (no-more !))) (λ u₁.
-        use1 W (later (some (λ (r₁ : Reader). ((‵ (flft κ q) ⊛ ‵ ftrue) ⊛ ‵ (B (κ, tt) .own r₁ (u₁ ∷ []))) ⊛ raw (ensured 𝓤 H A advanced.ended (advanced.clauses 𝓤 H A mem run) (κ, tt) (r, (n, tt)) tt r₁)))) (id⊢ 𝓤 _) $ await ! tt $ pick ! (λ r₁.
-        split ! $ move ! (1 ∷ []) $ use1 W (raw (fact 𝓤 ((r₁ .bytes ≡ r .bytes) × (r₁ .at ≡ n)))) (advanced-said r r₁) $ heard ! ((r₁ .bytes ≡ r .bytes) × (r₁ .at ≡ n)) (λ e₁. split ! $ move ! (1 ∷ []) $
+        use1 W (later (some (λ (r₁ : Reader). ((‵ (flft κ q) ⊛ ‵ ftrue) ⊛ ‵ (B (κ, tt) .own r₁ (u₁ ∷ []))) ⊛ raw (ensured 𝓤 H A advanced.ended (advanced.clauses 𝓤 H A mem run) (κ, tt) (r, (place, tt)) tt r₁)))) (id⊢ 𝓤 _) $ await ! tt $ pick ! (λ r₁.
+        split ! $ move ! (1 ∷ []) $ use1 W (raw (fact 𝓤 ((r₁ .bytes ≡ r .bytes) × (r₁ .at ≡ place)))) (advanced-said r r₁) $ heard ! ((r₁ .bytes ≡ r .bytes) × (r₁ .at ≡ place)) (λ e₁. split ! $ move ! (1 ∷ []) $
         peeks ! (B (κ, tt)) (Is (B (κ, tt))) (shows 𝓤 H A (B (κ, tt))) r₁ (u₁ ∷ []) (λ is₁.
         land ! (from ! (stop !)) (init ! 6 refl (LL.lawful (T.the-type αᵉ) (T′.the-laws αᵉ) 𝓤 H A W .typed r₁ _ is₁ .0)) $
         use2 W (raw (Next 𝓤 H A mem run .pre (to-next-record r₁ u₁))) (goes-next-record r₁ u₁) $

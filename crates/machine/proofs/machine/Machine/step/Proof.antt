@@ -1,66 +1,31 @@
 -- `machine::machine::Machine::step` meets its contract. Assumes nothing.
-use mathlib.Core.Path.{_∙_, sym}
-use borrow.Author.Tests.{not-true, not-false}
-use Rattle.ops.specs.Patch.{kindIn, countIn, needIn, placeIn}
+use borrow.Author.Needs.{needs}
 use Rattle.answers.specs.Run.{numberOf, placeOf}
-use Rattle.file_laws.proofs.Loaded.{good-file, part-fits, part-length, part-few}
-use Rattle.machine.proofs.Loaded.{kinds-read, parts-read}
-use Rattle.machine.proofs.Called.{step-bad, step-unformed, going-of, step-called}
-use Prim.Native.Nat.{ℕ}
-use borrow.Author.Needs.{needs, length-unmapped}
+use Rattle.machine.proofs.Once.{none-made, one-made}
 use Rattle.machine.proofs.machine.Machine.step.Statement.{statement}
 use Rattle.machine.proofs.machine.Machine.step.Tie as tie
 
 returns : tie.Need-returns
-unfolding numberOf placeOf
-returns c = step-bad _ _ _ (c .before .load .ensures .0) (c .if1 .taken) _
-
-is-formed-requires : tie.Need-is-formed-requires
-is-formed-requires c κs =
-    let kc = length-unmapped ℕ (c .before .before .before .before .before .before .before .before .before .before .before .before .before .before .before .before .before .before .before .before .before .before .before .before .args .self .calls) 256 (c .before .before .before .before .before .before .before .before .before .before .before .before .before .before .before .before .before .before .before .before .before .before .before .before .good .0 .1 .1 .0 .1 .0 .1) in let kr = length-unmapped ℕ (c .before .before .before .before .before .before .before .before .before .before .before .before .before .before .before .before .before .before .before .before .before .before .before .before .args .self .refs) 256 (c .before .before .before .before .before .before .before .before .before .before .before .before .before .before .before .before .before .before .before .before .before .before .before .before .good .0 .1 .1 .1 .0 .1 .0 .1) in
-    (kc, kr, part-few _ _ (c .before .before .before .before .before .before .before .before .before .before .before .before .load .ensures .0) (c .before .before .before .before .before .before .before .before .before .before .before .if1 .left) kindIn _ _ (c .before .before .before .before .before .before .before .before .before .before .before .before .load .ensures .1 .0))
+returns c = none-made _ _ _ _ (c .before .before .before .before .before .before .before .before .before .before .before .before .before .run .ensures) (c .if1 .taken)
 
 returns-2 : tie.Need-returns-2
 unfolding numberOf placeOf
-returns-2 c = step-unformed _ _ _ (c .before .before .before .before .before .before .before .before .before .before .before .before .before .before .load .ensures .0) (c .before .before .before .before .before .before .before .before .before .before .before .before .before .if1 .left) _ (kinds-read _ _ (c .before .before .before .before .before .before .before .before .before .before .before .before .before .before .load .ensures .0) (c .before .before .before .before .before .before .before .before .before .before .before .before .before .if1 .left) _ _ (c .before .before .before .before .before .before .before .before .before .before .before .before .before .before .load .ensures .1 .0)) _ (sym (c .before .is-formed .ensures) ∙ not-true _ (c .if2 .taken))
-
-once-requires : tie.Need-once-requires
-once-requires c κs =
-    let kc = length-unmapped ℕ (c .before .before .before .before .before .before .before .before .before .before .before .before .before .before .before .before .before .before .before .before .before .before .before .before .before .before .before .before .before .before .before .before .before .before .before .args .self .calls) 256 (c .before .before .before .before .before .before .before .before .before .before .before .before .before .before .before .before .before .before .before .before .before .before .before .before .before .before .before .before .before .before .before .before .before .before .before .good .0 .1 .1 .0 .1 .0 .1) in let kr = length-unmapped ℕ (c .before .before .before .before .before .before .before .before .before .before .before .before .before .before .before .before .before .before .before .before .before .before .before .before .before .before .before .before .before .before .before .before .before .before .before .args .self .refs) 256 (c .before .before .before .before .before .before .before .before .before .before .before .before .before .before .before .before .before .before .before .before .before .before .before .before .before .before .before .before .before .before .before .before .before .before .before .good .0 .1 .1 .1 .0 .1 .0 .1) in
-    going-of _ _ _ _ (good-file _ _ (c .before .before .before .before .before .before .before .before .before .before .before .before .before .before .before .before .before .before .before .before .before .before .before .load .ensures .0) (c .before .before .before .before .before .before .before .before .before .before .before .before .before .before .before .before .before .before .before .before .before .before .if1 .left)) (parts-read _ _ (c .before .before .before .before .before .before .before .before .before .before .before .before .before .before .before .before .before .before .before .before .before .before .before .load .ensures .0) (c .before .before .before .before .before .before .before .before .before .before .before .before .before .before .before .before .before .before .before .before .before .before .if1 .left) _ _ _ _ _ _ _ _ (c .before .before .before .before .before .before .before .before .before .before .before .before .before .before .before .before .before .before .before .before .before .before .before .load .ensures .1 .0) (c .before .before .before .before .before .before .before .before .before .before .before .before .before .before .before .before .before .before .before .before .before .before .before .load .ensures .1 .1 .0) (c .before .before .before .before .before .before .before .before .before .before .before .before .before .before .before .before .before .before .before .before .before .before .before .load .ensures .1 .1 .1 .0) (c .before .before .before .before .before .before .before .before .before .before .before .before .before .before .before .before .before .before .before .before .before .before .before .load .ensures .1 .1 .1 .1)) kc kr (sym (c .before .before .before .before .before .before .before .before .before .before .is-formed .ensures) ∙ not-false _ (c .before .before .before .before .before .before .before .before .before .if2 .left))
-
-returns-3 : tie.Need-returns-3
-returns-3 c =
-    let kc = length-unmapped ℕ (c .before .before .before .before .before .before .before .before .before .before .before .before .before .before .before .before .before .before .before .before .before .before .before .before .before .before .before .before .before .before .before .before .before .before .before .before .before .before .before .before .before .before .before .before .before .before .args .self .calls) 256 (c .before .before .before .before .before .before .before .before .before .before .before .before .before .before .before .before .before .before .before .before .before .before .before .before .before .before .before .before .before .before .before .before .before .before .before .before .before .before .before .before .before .before .before .before .before .before .good .0 .1 .1 .0 .1 .0 .1) in let kr = length-unmapped ℕ (c .before .before .before .before .before .before .before .before .before .before .before .before .before .before .before .before .before .before .before .before .before .before .before .before .before .before .before .before .before .before .before .before .before .before .before .before .before .before .before .before .before .before .before .before .before .before .args .self .refs) 256 (c .before .before .before .before .before .before .before .before .before .before .before .before .before .before .before .before .before .before .before .before .before .before .before .before .before .before .before .before .before .before .before .before .before .before .before .before .before .before .before .before .before .before .before .before .before .before .good .0 .1 .1 .1 .0 .1 .0 .1) in
-    c .before .before .before .before .before .before .before .before .before .before .once .ensures ∙ step-called _ _ _ _ (going-of _ _ _ _ (good-file _ _ (c .before .before .before .before .before .before .before .before .before .before .before .before .before .before .before .before .before .before .before .before .before .before .before .before .before .before .before .before .before .before .before .before .before .before .load .ensures .0) (c .before .before .before .before .before .before .before .before .before .before .before .before .before .before .before .before .before .before .before .before .before .before .before .before .before .before .before .before .before .before .before .before .before .if1 .left)) (parts-read _ _ (c .before .before .before .before .before .before .before .before .before .before .before .before .before .before .before .before .before .before .before .before .before .before .before .before .before .before .before .before .before .before .before .before .before .before .load .ensures .0) (c .before .before .before .before .before .before .before .before .before .before .before .before .before .before .before .before .before .before .before .before .before .before .before .before .before .before .before .before .before .before .before .before .before .if1 .left) _ _ _ _ _ _ _ _ (c .before .before .before .before .before .before .before .before .before .before .before .before .before .before .before .before .before .before .before .before .before .before .before .before .before .before .before .before .before .before .before .before .before .before .load .ensures .1 .0) (c .before .before .before .before .before .before .before .before .before .before .before .before .before .before .before .before .before .before .before .before .before .before .before .before .before .before .before .before .before .before .before .before .before .before .load .ensures .1 .1 .0) (c .before .before .before .before .before .before .before .before .before .before .before .before .before .before .before .before .before .before .before .before .before .before .before .before .before .before .before .before .before .before .before .before .before .before .load .ensures .1 .1 .1 .0) (c .before .before .before .before .before .before .before .before .before .before .before .before .before .before .before .before .before .before .before .before .before .before .before .before .before .before .before .before .before .before .before .before .before .before .load .ensures .1 .1 .1 .1)) kc kr (sym (c .before .before .before .before .before .before .before .before .before .before .before .before .before .before .before .before .before .before .before .before .before .is-formed .ensures) ∙ not-false _ (c .before .before .before .before .before .before .before .before .before .before .before .before .before .before .before .before .before .before .before .before .if2 .left)))
+returns-2 c = one-made _ _ _ _ (c .before .before .before .before .before .before .before .before .before .before .before .before .before .run .ensures) (c .if1 .left)
 
 pub step-spec : {M : Type 1} → statement M
 step-spec =
     tie.close
     (tie.spec
     (λ c κs. search needs)
+    (λ c. search needs)
+    (λ c. search needs)
+    (λ c. search needs)
+    (λ c. search needs)
+    (λ c. search needs)
     returns
-    (λ c. part-fits _ _ (c .before .before .before .before .before .before .load .ensures .0) (c .before .before .before .before .before .if1 .left) kindIn _ _ (c .before .before .before .before .before .before .load .ensures .1 .0))
-    (λ c. part-length _ _ (c .before .before .before .before .before .before .before .load .ensures .0) (c .before .before .before .before .before .before .if1 .left) kindIn _ _ (c .before .before .before .before .before .before .before .load .ensures .1 .0))
-    is-formed-requires
     (λ c. search needs)
     (λ c. search needs)
     (λ c. search needs)
     (λ c. search needs)
     (λ c. search needs)
-    returns-2
-    (λ c. part-fits _ _ (c .before .before .before .before .before .before .before .before .before .before .before .before .before .before .load .ensures .0) (c .before .before .before .before .before .before .before .before .before .before .before .before .before .if1 .left) kindIn _ _ (c .before .before .before .before .before .before .before .before .before .before .before .before .before .before .load .ensures .1 .0))
-    (λ c. part-length _ _ (c .before .before .before .before .before .before .before .before .before .before .before .before .before .before .before .load .ensures .0) (c .before .before .before .before .before .before .before .before .before .before .before .before .before .before .if1 .left) kindIn _ _ (c .before .before .before .before .before .before .before .before .before .before .before .before .before .before .before .load .ensures .1 .0))
-    (λ c. part-fits _ _ (c .before .before .before .before .before .before .before .before .before .before .before .before .before .before .before .load .ensures .0) (c .before .before .before .before .before .before .before .before .before .before .before .before .before .before .if1 .left) countIn _ _ (c .before .before .before .before .before .before .before .before .before .before .before .before .before .before .before .load .ensures .1 .1 .0))
-    (λ c. part-length _ _ (c .before .before .before .before .before .before .before .before .before .before .before .before .before .before .before .before .load .ensures .0) (c .before .before .before .before .before .before .before .before .before .before .before .before .before .before .before .if1 .left) countIn _ _ (c .before .before .before .before .before .before .before .before .before .before .before .before .before .before .before .before .load .ensures .1 .1 .0))
-    (λ c. part-fits _ _ (c .before .before .before .before .before .before .before .before .before .before .before .before .before .before .before .before .load .ensures .0) (c .before .before .before .before .before .before .before .before .before .before .before .before .before .before .before .if1 .left) needIn _ _ (c .before .before .before .before .before .before .before .before .before .before .before .before .before .before .before .before .load .ensures .1 .1 .1 .0))
-    (λ c. part-length _ _ (c .before .before .before .before .before .before .before .before .before .before .before .before .before .before .before .before .before .load .ensures .0) (c .before .before .before .before .before .before .before .before .before .before .before .before .before .before .before .before .if1 .left) needIn _ _ (c .before .before .before .before .before .before .before .before .before .before .before .before .before .before .before .before .before .load .ensures .1 .1 .1 .0))
-    (λ c. part-fits _ _ (c .before .before .before .before .before .before .before .before .before .before .before .before .before .before .before .before .before .load .ensures .0) (c .before .before .before .before .before .before .before .before .before .before .before .before .before .before .before .before .if1 .left) placeIn _ _ (c .before .before .before .before .before .before .before .before .before .before .before .before .before .before .before .before .before .load .ensures .1 .1 .1 .1))
-    (λ c. part-length _ _ (c .before .before .before .before .before .before .before .before .before .before .before .before .before .before .before .before .before .before .load .ensures .0) (c .before .before .before .before .before .before .before .before .before .before .before .before .before .before .before .before .before .if1 .left) placeIn _ _ (c .before .before .before .before .before .before .before .before .before .before .before .before .before .before .before .before .before .before .load .ensures .1 .1 .1 .1))
-    once-requires
-    (λ c. search needs)
-    (λ c. search needs)
-    (λ c. search needs)
-    (λ c. search needs)
-    (λ c. search needs)
-    returns-3)
+    returns-2)

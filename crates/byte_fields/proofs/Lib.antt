@@ -1,0 +1,3 @@
+pub mod Storage
+pub mod ValuesAt
+pub mod TextAt

@@ -1,0 +1,12 @@
+-- `control_ops::control::else_op` meets its contract. Assumes nothing.
+use Rattle.control_ops.specs.Control.{elsesOf}
+use borrow.Author.Needs.{needs}
+use Rattle.control_ops.proofs.control.else_op.Statement.{statement}
+use Rattle.control_ops.proofs.control.else_op.Tie as tie
+
+returns : tie.Need-returns
+unfolding elsesOf
+returns c = simp (c .jump .ensures, ← c .before .before .pre .0)
+
+pub else-op-spec : {M : Type 1} → statement M
+else-op-spec = tie.close (tie.spec (λ c κs. search needs) returns)

@@ -1,0 +1,235 @@
+-- What 37 tests is 01's well-formed state: a computed `isFormed` is true exactly where what is held fits the patch. Assumes nothing.
+use mathlib.Core.Path.{_≡_, _∙_, refl, ap, sym}
+use mathlib.Core.Bool.{Bool, true, false, _&&_}
+use mathlib.Core.List.{List, [], _∷_, map}
+use Prim.Native.Nat.{ℕ, _+_, _≤_, _<_}
+use native.Mathlib.Omega.{arith}
+use lib.Dec.{leb, ltb, eqb}
+use lib.ListN.{length, getD, take, List·getD-map}
+use lib.Seq.{length-take-le}
+use borrow.Author.Tests.{leb-true, ltb-true, le-leb, lt-ltb}
+use Rattle.ops.specs.Op.{Op, isFunction}
+use Rattle.ops.specs.Op.Plain.{comment}
+use Rattle.ops.specs.Op.Op.{plain}
+use Rattle.testing_device.proofs.Rings.{length-ring}
+use Rattle.testing_device.proofs.Words.{and-left, and-right}
+use Rattle.machine_model.specs.State.{Given}
+use Rattle.machine_model.specs.Scan.{opAt, functions}
+use Rattle.machine_model.specs.Formed.{Each, Rising, Marked}
+use Rattle.machine_model.proofs.Each.{each-to}
+use Rattle.searches.specs.Found.{rowFunction}
+use Rattle.hops.specs.declared.place.Place.{Place}
+use Rattle.machine_step.specs.Held.{Held}
+use Rattle.bridge.specs.Decoded.{codeOf, givenOf}
+use Rattle.bridge.specs.Fits.{Fits}
+use Rattle.bridge.proofs.Control.{Rows}
+use Rattle.bridge.proofs.Decoded.{rows}
+use Rattle.states.specs.Formed.{hasRoom, inLimits, inPlace, allOf, callsBelow, refsWithin, namesFrom, tableNames, isFormed}
+
+parts : (a b : Bool) → (a && b) ≡ true → (a ≡ true) × (b ≡ true)
+parts a b e = (and-left a b e, and-right a b e)
+
+both : {a b : Bool} → a ≡ true → b ≡ true → (a && b) ≡ true
+both e f = rw (e, f) refl
+
+-- ---- the lent room
+
+pub record Room (g ts ch : List ℕ) : Type 0 where
+  pub wide : 1024 ≤ length g
+  pub tabled : 256 ≤ length ts
+  pub ringed : 256 ≤ length ch
+
+pub room : (g ts ch : List ℕ) → hasRoom g ts ch ≡ true → Room g ts ch
+unfolding hasRoom
+room g ts ch e =
+    let e2 = parts _ _ e in let e1 = parts _ _ (e2 .0) in
+    record { wide = leb-true _ _ (e1 .0); tabled = leb-true _ _ (e1 .1); ringed = leb-true _ _ (e2 .1) }
+
+has-room : (g ts ch : List ℕ) → Room g ts ch → hasRoom g ts ch ≡ true
+unfolding hasRoom
+has-room g ts ch r = rw (le-leb _ _ (r .wide), le-leb _ _ (r .tabled), le-leb _ _ (r .ringed)) refl
+
+-- ---- the limits
+
+pub record Limits (p : Place) : Type 0 where
+  pub near : p .pointer ≤ 1_000_000_000
+  pub short : p .length ≤ 2_000_000_000
+  pub narrow : p .lanes ≤ 1024
+  pub few-entered : p .functions ≤ 256
+  pub few-calls : p .depth ≤ 256
+  pub few-refs : p .saved ≤ 256
+  pub few-sent : p .waiting ≤ 256
+  pub first : p .first < 256
+
+pub limits : (p : Place) → inLimits p ≡ true → Limits p
+unfolding inLimits
+limits p e =
+    let e7 = parts _ _ e in let e6 = parts _ _ (e7 .0) in let e5 = parts _ _ (e6 .0) in let e4 = parts _ _ (e5 .0) in
+    let e3 = parts _ _ (e4 .0) in let e2 = parts _ _ (e3 .0) in let e1 = parts _ _ (e2 .0) in
+    record {
+      near = leb-true _ _ (e1 .0);
+      short = leb-true _ _ (e1 .1);
+      narrow = leb-true _ _ (e2 .1);
+      few-entered = leb-true _ _ (e3 .1);
+      few-calls = leb-true _ _ (e4 .1);
+      few-refs = leb-true _ _ (e5 .1);
+      few-sent = leb-true _ _ (e6 .1);
+      first = ltb-true _ _ (e7 .1);
+    }
+
+in-limits : (p : Place) → Limits p → inLimits p ≡ true
+unfolding inLimits
+in-limits p l =
+    rw (
+      le-leb _ _ (l .near),
+      le-leb _ _ (l .short),
+      le-leb _ _ (l .narrow),
+      le-leb _ _ (l .few-entered),
+      le-leb _ _ (l .few-calls),
+      le-leb _ _ (l .few-refs),
+      le-leb _ _ (l .few-sent),
+      lt-ltb _ _ (l .first),
+    ) refl
+
+pub record Within (p : Place) (ops inputs outputs : ℕ) : Type 0 where
+  pub within : p .position ≤ ops
+  pub read : p .taken ≤ inputs
+  pub written : p .written ≤ outputs
+
+within : (p : Place) (ops inputs outputs : ℕ) → inPlace p ops inputs outputs ≡ true → Within p ops inputs outputs
+unfolding inPlace
+within p ops inputs outputs e =
+    let e2 = parts _ _ e in let e1 = parts _ _ (e2 .0) in
+    record { within = leb-true _ _ (e1 .0); read = leb-true _ _ (e1 .1); written = leb-true _ _ (e2 .1) }
+
+in-place : (p : Place) (ops inputs outputs : ℕ) → Within p ops inputs outputs → inPlace p ops inputs outputs ≡ true
+unfolding inPlace
+in-place p ops inputs outputs w = rw (le-leb _ _ (w .within), le-leb _ _ (w .read), le-leb _ _ (w .written)) refl
+
+-- ---- the stacks and the table
+
+module _ (p : ℕ → Bool) (P : ℕ → Type 0) where
+  each-of : ((x : ℕ) → p x ≡ true → P x) → (l : List ℕ) → allOf p l ≡ true → Each P l
+  unfolding allOf
+  each-of h [] e = tt
+  each-of h (x ∷ xs) e = (h x (and-left (p x) (allOf p xs) e), each-of h xs (and-right (p x) (allOf p xs) e))
+
+  of-each : ((x : ℕ) → P x → p x ≡ true) → (l : List ℕ) → Each P l → allOf p l ≡ true
+  unfolding allOf
+  of-each h [] a = refl
+  of-each h (x ∷ xs) a = both (h x (a .0)) (of-each h xs (a .1))
+
+module _ (g : Given) (ks : List ℕ) (r : Rows (g .ops) ks) where
+  entered-map : (os : List Op) → functions os ≡ map isFunction os
+  entered-map [] = refl
+  entered-map (o ∷ os) = ap (λ (l : List Bool). isFunction o ∷ l) (entered-map os)
+
+  -- a row of 2 is a Function mark's
+  mark-is : (t : ℕ) → isFunction (opAt (g .ops) t) ≡ eqb (getD ks t 0) 2
+  unfolding rowFunction
+  mark-is t =
+      sym (List·getD-map isFunction (g .ops) t (plain (comment [])))
+      ∙ ap (λ (l : List Bool). getD l t false) (sym (entered-map (g .ops)) ∙ r .entered)
+      ∙ List·getD-map rowFunction ks t 0
+
+  above : (b : ℕ) (ts : List ℕ) → namesFrom ks (b + 1) ts ≡ true → Each (λ y. b < y) ts
+  unfolding namesFrom
+  above b [] e = tt
+  above b (t ∷ ts) e =
+      let f = parts _ _ e in let q = parts _ _ (f .0) in
+      let l : b < t = omega (arith, leb-true (b + 1) t (q .0)) in
+      (l, each-to (λ y. t < y) (λ y. b < y) (λ y h. omega arith) ts (above t ts (f .1)))
+
+  rising : (b : ℕ) (ts : List ℕ) → namesFrom ks b ts ≡ true → Rising ts
+  unfolding namesFrom
+  rising b [] e = tt
+  rising b (t ∷ ts) e = let f = parts (leb b t && eqb (getD ks t 0) 2) _ e in (above t ts (f .1), rising (t + 1) ts (f .1))
+
+  marked : (b : ℕ) (ts : List ℕ) → namesFrom ks b ts ≡ true → Each (Marked g) ts
+  unfolding namesFrom
+  marked b [] e = tt
+  marked b (t ∷ ts) e =
+      let f = parts _ _ e in let q = parts (leb b t) _ (f .0) in
+      (mark-is t ∙ q .1, marked (t + 1) ts (f .1))
+
+  names : (b : ℕ) (ts : List ℕ) → Each (λ y. b ≤ y) ts → Rising ts → Each (Marked g) ts → namesFrom ks b ts ≡ true
+  unfolding namesFrom
+  names b [] l a m = refl
+  names b (t ∷ ts) l a m =
+      both (both (le-leb b t (l .0)) (sym (mark-is t) ∙ m .0))
+      (names (t + 1) ts (each-to (λ y. t < y) (λ y. t + 1 ≤ y) (λ y h. omega arith) ts (a .0)) (a .1) (m .1))
+
+-- ---- all of it
+
+every : (l : List ℕ) → Each (λ y. 0 ≤ y) l
+every [] = tt
+every (x ∷ xs) = (omega arith, every xs)
+
+module _ (s input : List ℕ) (c : Held) (kc : length (c .calls) ≡ 256) (kr : length (c .refs) ≡ 256) where
+  -- a state that the test passes fits the patch
+  pub formed-fits : isFormed (codeOf s .kinds) (length input) c ≡ true → Fits s input c
+  unfolding isFormed callsBelow refsWithin tableNames givenOf
+  formed-fits e =
+      let e5 = parts _ _ e in let e4 = parts _ _ (e5 .0) in let e3 = parts _ _ (e4 .0) in let e2 = parts _ _ (e3 .0) in let e1 = parts _ _ (e2 .0) in
+      let r = room (c .register) (c .table) (c .channel) (e1 .0) in
+      let l = limits (c .place) (e1 .1) in
+      let w = within (c .place) (length (codeOf s .kinds)) (length input) (length (c .output)) (e2 .1) in
+      let rs = rows s input (length (c .output)) in
+      let n = rs .many in
+      record {
+        counted = record {
+          wide = r .wide;
+          tabled = r .tabled;
+          ringed = r .ringed;
+          call-room = kc;
+          ref-room = kr;
+          first = l .first;
+          lanes = omega (arith, l .narrow, r .wide);
+          functions = omega (arith, l .few-entered, r .tabled);
+          depth = l .few-calls;
+          saved = l .few-refs;
+          waiting = l .few-sent;
+          written = w .written;
+        };
+        formed = record {
+          near = l .near;
+          short = l .short;
+          narrow = omega (arith, l .narrow, length-take-le (c .place .lanes) (c .register) (omega (arith, l .narrow, r .wide)));
+          few-entered = omega (arith, l .few-entered, length-take-le (c .place .functions) (c .table) (omega (arith, l .few-entered, r .tabled)));
+          few-calls = omega (arith, l .few-calls, length-take-le (c .place .depth) (c .calls) (omega (arith, l .few-calls, kc)));
+          few-refs = omega (arith, l .few-refs, length-take-le (c .place .saved) (c .refs) (omega (arith, l .few-refs, kr)));
+          few-sent = omega (arith, l .few-sent, length-ring (c .channel) (c .place .first) (c .place .waiting));
+          within = omega (arith, w .within, n);
+          saved = each-of (λ x. ltb x (length (codeOf s .kinds))) (λ x. x < length (givenOf s input (length (c .output)) .ops)) (λ x h. omega (arith, ltb-true x (length (codeOf s .kinds)) h, n)) (take (c .place .depth) (c .calls)) (e3 .1);
+          pointed = each-of (λ x. leb x 1_000_000_000) (λ x. x ≤ 1_000_000_000) (λ x h. leb-true x 1_000_000_000 h) (take (c .place .saved) (c .refs)) (e4 .1);
+          rising = rising (givenOf s input (length (c .output))) (codeOf s .kinds) rs 0 (take (c .place .functions) (c .table)) (e5 .1);
+          marked = marked (givenOf s input (length (c .output))) (codeOf s .kinds) rs 0 (take (c .place .functions) (c .table)) (e5 .1);
+          read = w .read;
+          fits = omega (arith, w .written, length-take-le (c .place .written) (c .output) (w .written));
+        };
+      }
+
+  -- and one that fits it passes
+  pub fits-formed : Fits s input c → isFormed (codeOf s .kinds) (length input) c ≡ true
+  unfolding isFormed callsBelow refsWithin tableNames givenOf
+  fits-formed h =
+      let k = h .counted in let f = h .formed in
+      let rs = rows s input (length (c .output)) in
+      let n = rs .many in
+      both (both (both (both (both
+      (has-room (c .register) (c .table) (c .channel) (record { wide = k .wide; tabled = k .tabled; ringed = k .ringed }))
+      (in-limits (c .place)
+      (record {
+        near = f .near;
+        short = f .short;
+        narrow = omega (arith, f .narrow, length-take-le (c .place .lanes) (c .register) (k .lanes));
+        few-entered = omega (arith, f .few-entered, length-take-le (c .place .functions) (c .table) (k .functions));
+        few-calls = k .depth;
+        few-refs = k .saved;
+        few-sent = k .waiting;
+        first = k .first;
+      })))
+      (in-place (c .place) (length (codeOf s .kinds)) (length input) (length (c .output)) (record { within = omega (arith, f .within, n); read = f .read; written = k .written })))
+      (of-each (λ x. ltb x (length (codeOf s .kinds))) (λ x. x < length (givenOf s input (length (c .output)) .ops)) (λ x h. lt-ltb x (length (codeOf s .kinds)) (omega (arith, h, n))) (take (c .place .depth) (c .calls)) (f .saved)))
+      (of-each (λ x. leb x 1_000_000_000) (λ x. x ≤ 1_000_000_000) (λ x h. le-leb x 1_000_000_000 h) (take (c .place .saved) (c .refs)) (f .pointed)))
+      (names (givenOf s input (length (c .output))) (codeOf s .kinds) rs 0 (take (c .place .functions) (c .table)) (every (take (c .place .functions) (c .table))) (f .rising) (f .marked))
