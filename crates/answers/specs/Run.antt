@@ -4,7 +4,7 @@ use Rattle.answers.specs.declared.run.Answer.{Answer}
 use Rattle.answers.specs.declared.run.Answer.the-variants.{BadFile, NotAState, Went, Finished, Spent, Refused}
 
 -- a step that went on, and a run or a step that is finished, are 0
-unfoldable pub numberOf : Answer → ℕ
+abbrev pub numberOf : Answer → ℕ
 numberOf (BadFile n p) = n
 numberOf NotAState = 37
 numberOf Went = 0
@@ -13,7 +13,7 @@ numberOf Spent = 50
 numberOf (Refused n) = n
 
 -- the byte of a bad file; 0 of what is no state; else the op at the position `at`, which is the next op or the refused one
-unfoldable pub placeOf : Answer → ℕ → ℕ
+abbrev pub placeOf : Answer → ℕ → ℕ
 placeOf (BadFile n p) at = p
 placeOf NotAState at = 0
 placeOf Went at = at

@@ -11,12 +11,12 @@ use lib.ListN.{length, getD, take, drop, length-drop, length-map, List·getD-eq-
 use lib.ListN
 use lib.Seq.{getD-take, length-take-le, take-append-seam}
 use borrow.Author.Tests.{leb-true, leb-false, le-leb, lt-leb, ltb-true, le-ltb, eqb-true, eqb-false}
+use Rattle.basics.proofs.Tests.{byCase}
 use Rattle.byte_fields.specs.Storage.{fill}
-use Rattle.ops.specs.Op.{Op, Mark, isWhile}
-use Rattle.ops.specs.Op.Control.{function, call, ret, while, if, else, end}
-use Rattle.testing_device.proofs.Words.{byCase}
+use Rattle.ops.specs.Syntax.{Op, Bracket, isWhile}
+use Rattle.ops.specs.Syntax.Control.{function, call, ret, while, if, else, end}
 use Rattle.machine_model.specs.State.{State, Given, lane0, goTo, on, withTable, withCalls, halt}
-use Rattle.machine_model.specs.Scan.{opAt, marks, functions, toEnd, toElse, toOpen, kth}
+use Rattle.machine_model.specs.Scan.{opAt, brackets, functions, toEnd, toElse, toOpen, kth}
 use Rattle.machine_model.specs.Step.{turn, pick, bar, jump, found, back, again, enter}
 use Rattle.machine_model.specs.Step.Outcome.{next}
 use Rattle.machine_model.specs.Formed.{Formed, Marked}
@@ -24,8 +24,8 @@ use Rattle.machine_model.specs.Limited.{count}
 use Rattle.machine_model.proofs.Scans.{end-below, else-below, function-below, kth-is}
 use Rattle.machine_model.proofs.Table.{each-enter, rising-enter, marks-few}
 use Rattle.machine_model.proofs.Stacks.{pushed, back-popped}
-use Rattle.hops.specs.Place as m
-use Rattle.searches.specs.Found.{rowMark, rowFunction, placeOr, endOf, elseOf, openOf, markOf, entry, enteredIn, countedIn}
+use Rattle.machine_numbers.specs.Numbers as m
+use Rattle.searches.specs.Found.{rowBracket, rowFunction, placeOr, endOf, elseOf, openOf, markOf, entry, enteredIn, countedIn}
 use Rattle.control_ops.specs.Control.{jumpOf, functionOf, callOf, retOf, whileOf, ifOf, elsesOf, endsOf, inTable}
 use Rattle.machine_step.specs.Held.{Held, held, steering}
 use Rattle.bridge.specs.View.{view, laid}
@@ -36,92 +36,92 @@ use Rattle.bridge.proofs.Over.{over-same, over-num, over-calls, went, m
 -- the rows ks are to the searches what the ops are
 pub record Rows (os : List Op) (ks : List ℕ) : Type 0 where
   pub many : length os ≡ length ks
-  pub marked : marks os ≡ map rowMark ks
+  pub marked : brackets os ≡ map rowBracket ks
   pub entered : functions os ≡ map rowFunction ks
   pub looped : (j : ℕ) → isWhile (opAt os j) ≡ eqb (getD ks j 0) 5
 
 module _ (g : Given) (ks : List ℕ) (r : Rows (g .ops) ks) (c : Held) (h : Counted c) where
   -- on to the op after v
-  go-is : (v : ℕ) → went (held (m.atPosition (c .place) (v + 1)) (c .calls) (c .refs) (c .register) (c .tape) (c .table) (c .channel) (c .output)) ≡ laid c (next (goTo (view c) (suc v)))
+  go-is : (v : ℕ) → went (held (m.atPosition (c .numbers) (v + 1)) (c .calls) (c .refs) (c .register) (c .tape) (c .table) (c .channel) (c .output)) ≡ laid c (next (goTo (view c) (suc v)))
   go-is v = meets c _ _ (over-num c h _ _ _ _ _ _) (rw (add-one v) refl)
 
   -- past the partner that a search gives, or 20
   jump-is : (x : Option ℕ) → ((j : ℕ) → x ≡ some j → j < length ks)
-      → steering c (m.steered (jumpOf ks (c .place) (placeOr (length ks) x)) (c .calls) (c .table)) ≡ laid c (jump (view c) x)
-  unfolding jumpOf m.pick
+      → steering c (m.steered (jumpOf ks (c .numbers) (placeOr (length ks) x)) (c .calls) (c .table)) ≡ laid c (jump (view c) x)
+  unfolding jumpOf pick
   jump-is none b = rw (le-leb (length ks) (length ks) (omega arith)) refl
   jump-is (some j) b = rw (lt-leb (length ks) j (b j refl)) (go-is j)
 
   -- a search over the marks that follow the position, which gives a place before their end
-  module _ (to : ℕ → ℕ → List Mark → Option ℕ) (below : (p d : ℕ) (ms : List Mark) (j : ℕ) → to p d ms ≡ some j → j < p + length ms)
-      (here : c .place .position < length ks) where
-    partner : (j : ℕ) → to (suc (c .place .position)) 0 (drop (suc (c .place .position)) (map rowMark ks)) ≡ some j → j < length ks
+  module _ (to : ℕ → ℕ → List Bracket → Option ℕ) (below : (p d : ℕ) (ms : List Bracket) (j : ℕ) → to p d ms ≡ some j → j < p + length ms)
+      (here : c .numbers .position < length ks) where
+    partner : (j : ℕ) → to (suc (c .numbers .position)) 0 (drop (suc (c .numbers .position)) (map rowBracket ks)) ≡ some j → j < length ks
     partner j e =
-        let i = suc (c .place .position) in
-        omega (arith, below i 0 (drop i (map rowMark ks)) j e, length-drop i (map rowMark ks), length-map ks rowMark)
+        let i = suc (c .numbers .position) in
+        omega (arith, below i 0 (drop i (map rowBracket ks)) j e, length-drop i (map rowBracket ks), length-map ks rowBracket)
 
-    skip-is : steering c (m.steered (jumpOf ks (c .place) (placeOr (length ks) (to (c .place .position + 1) 0 (drop (c .place .position + 1) (map rowMark ks))))) (c .calls) (c .table))
-        ≡ laid c (jump (view c) (to (suc (c .place .position)) 0 (drop (suc (c .place .position)) (marks (g .ops)))))
-    skip-is = let i = suc (c .place .position) in rw (add-one (c .place .position), r .marked) (jump-is (to i 0 (drop i (map rowMark ks))) partner)
+    skip-is : steering c (m.steered (jumpOf ks (c .numbers) (placeOr (length ks) (to (c .numbers .position + 1) 0 (drop (c .numbers .position + 1) (map rowBracket ks))))) (c .calls) (c .table))
+        ≡ laid c (jump (view c) (to (suc (c .numbers .position)) 0 (drop (suc (c .numbers .position)) (brackets (g .ops)))))
+    skip-is = let i = suc (c .numbers .position) in rw (add-one (c .numbers .position), r .marked) (jump-is (to i 0 (drop i (map rowBracket ks))) partner)
 
     -- the same where lane 0 is zero
-    skip-at-zero : 0 < c .place .lanes
-        → steering c (m.steered (m.pick (eqb (getD (c .register) 0 0) 0) (jumpOf ks (c .place) (placeOr (length ks) (to (c .place .position + 1) 0 (drop (c .place .position + 1) (map rowMark ks))))) (m.hop 0 (m.next (c .place)))) (c .calls) (c .table))
-        ≡ laid c (pick (eqb (lane0 (view c)) 0) (jump (view c) (to (suc (c .place .position)) 0 (drop (suc (c .place .position)) (marks (g .ops))))) (next (on (view c))))
-    unfolding m.pick pick
+    skip-at-zero : 0 < c .numbers .lanes
+        → steering c (m.steered (pick (eqb (getD (c .register) 0 0) 0) (jumpOf ks (c .numbers) (placeOr (length ks) (to (c .numbers .position + 1) 0 (drop (c .numbers .position + 1) (map rowBracket ks))))) (m.answered 0 (m.next (c .numbers)))) (c .calls) (c .table))
+        ≡ laid c (pick (eqb (lane0 (view c)) 0) (jump (view c) (to (suc (c .numbers .position)) 0 (drop (suc (c .numbers .position)) (brackets (g .ops))))) (next (on (view c))))
+    unfolding pick
     skip-at-zero w =
-        let l = getD-take (c .place .lanes) (c .register) 0 0 w in
+        let l = getD-take (c .numbers .lanes) (c .register) 0 0 w in
         byCase (eqb (getD (c .register) 0 0) 0)
         (λ e. rw (l, e) skip-is)
-        (λ e. rw (l, e) (go-is (c .place .position)))
+        (λ e. rw (l, e) (go-is (c .numbers .position)))
 
-  module _ (here : c .place .position < length ks) where
-    pub while-is : 0 < c .place .lanes → steering c (m.steered (whileOf ks (c .place) (c .register)) (c .calls) (c .table)) ≡ laid c (turn g while (view c))
+  module _ (here : c .numbers .position < length ks) where
+    pub while-is : 0 < c .numbers .lanes → steering c (m.steered (whileOf ks (c .numbers) (c .register)) (c .calls) (c .table)) ≡ laid c (turn g while (view c))
     unfolding whileOf endOf turn
     while-is w = skip-at-zero toEnd end-below here w
 
-    pub if-is : 0 < c .place .lanes → steering c (m.steered (ifOf ks (c .place) (c .register)) (c .calls) (c .table)) ≡ laid c (turn g if (view c))
+    pub if-is : 0 < c .numbers .lanes → steering c (m.steered (ifOf ks (c .numbers) (c .register)) (c .calls) (c .table)) ≡ laid c (turn g if (view c))
     unfolding ifOf elseOf turn
     if-is w = skip-at-zero toElse else-below here w
 
-    pub else-is : steering c (m.steered (elsesOf ks (c .place)) (c .calls) (c .table)) ≡ laid c (turn g else (view c))
+    pub else-is : steering c (m.steered (elsesOf ks (c .numbers)) (c .calls) (c .table)) ≡ laid c (turn g else (view c))
     unfolding elsesOf endOf turn
     else-is = skip-is toEnd end-below here
 
   -- ---- End
 
   again-is : (x : Option ℕ)
-      → steering c (m.steered (m.pick (leb (length ks) (placeOr (length ks) x)) (m.hop 0 (m.next (c .place))) (m.pick (eqb (getD ks (placeOr (length ks) x) 0) 5) (m.hop 0 (m.atPosition (c .place) (placeOr (length ks) x + 1))) (m.hop 0 (m.next (c .place))))) (c .calls) (c .table))
+      → steering c (m.steered (pick (leb (length ks) (placeOr (length ks) x)) (m.answered 0 (m.next (c .numbers))) (pick (eqb (getD ks (placeOr (length ks) x) 0) 5) (m.answered 0 (m.atPosition (c .numbers) (placeOr (length ks) x + 1))) (m.answered 0 (m.next (c .numbers))))) (c .calls) (c .table))
       ≡ laid c (again g (view c) x)
-  unfolding m.pick
-  again-is none = rw (le-leb (length ks) (length ks) (omega arith)) (go-is (c .place .position))
+  unfolding pick
+  again-is none = rw (le-leb (length ks) (length ks) (omega arith)) (go-is (c .numbers .position))
   again-is (some j) =
       byCase (leb (length ks) j)
       (λ e. let b = leb-true (length ks) j e in
-      rw (e, r .looped j, List·getD-eq-default ks 0 b) (go-is (c .place .position)))
+      rw (e, r .looped j, List·getD-eq-default ks 0 b) (go-is (c .numbers .position)))
       (λ e. byCase (eqb (getD ks j 0) 5)
       (λ f. rw (e, r .looped j, f) (go-is j))
-      (λ f. rw (e, r .looped j, f) (go-is (c .place .position))))
+      (λ f. rw (e, r .looped j, f) (go-is (c .numbers .position))))
 
-  pub end-is : 0 < c .place .lanes → steering c (m.steered (endsOf ks (c .place) (c .register)) (c .calls) (c .table)) ≡ laid c (turn g end (view c))
-  unfolding endsOf openOf m.pick turn pick
+  pub end-is : 0 < c .numbers .lanes → steering c (m.steered (endsOf ks (c .numbers) (c .register)) (c .calls) (c .table)) ≡ laid c (turn g end (view c))
+  unfolding endsOf openOf pick turn
   end-is w =
-      let l = getD-take (c .place .lanes) (c .register) 0 0 w in
+      let l = getD-take (c .numbers .lanes) (c .register) 0 0 w in
       byCase (eqb (getD (c .register) 0 0) 0)
-      (λ e. rw (l, e) (go-is (c .place .position)))
-      (λ e. rw (l, e, r .marked) (again-is (toOpen 0 (reverse (take (c .place .position) (map rowMark ks))))))
+      (λ e. rw (l, e) (go-is (c .numbers .position)))
+      (λ e. rw (l, e, r .marked) (again-is (toOpen 0 (reverse (take (c .numbers .position) (map rowBracket ks))))))
 
   -- ---- Return
 
   none-saved : (s : State) (l : List ℕ) (n : ℕ) → n ≡ 0 → back s (take n l) ≡ next (halt (on s))
   none-saved s l n e = rw e refl
 
-  pub ret-is : steering c (m.steered (retOf (c .place) (c .calls)) (c .calls) (c .table)) ≡ laid c (turn g ret (view c))
-  unfolding retOf m.pick turn
+  pub ret-is : steering c (m.steered (retOf (c .numbers) (c .calls)) (c .calls) (c .table)) ≡ laid c (turn g ret (view c))
+  unfolding retOf pick turn
   ret-is =
-      let d = c .place .depth in let z = h .depth in let q = h .call-room in let o = over-same c h in
+      let d = c .numbers .depth in let z = h .depth in let q = h .call-room in let o = over-same c h in
       byCase (eqb d 0)
-      (λ e. rw (e, none-saved (view c) (c .calls) d (eqb-true d 0 e)) (meets c _ _ (over-calls c h _ _ _ _ _ _ (o .calls) (o .table)) (rw (add-one (c .place .position)) refl)))
+      (λ e. rw (e, none-saved (view c) (c .calls) d (eqb-true d 0 e)) (meets c _ _ (over-calls c h _ _ _ _ _ _ (o .calls) (o .table)) (rw (add-one (c .numbers .position)) refl)))
       (λ e. let k : 0 < d = omega (arith, eqb-false d 0 e) in let b : d ≤ length (c .calls) = omega arith in
       rw (e, back-popped (view c) (c .calls) d k b)
       (meets c _ _ (over-calls c h _ _ _ _ _ _ (laid-same (d - 1) (c .calls) (omega arith)) (o .table)) (rw (add-one (getD (c .calls) (d - 1) 0)) refl)))
@@ -130,61 +130,61 @@ module _ (g : Given) (ks : List ℕ) (r : Rows (g .ops) ks) (c : Held) (h : Coun
 
   module _ (f : Formed g (view c)) (few : count (functions (g .ops)) ≤ 256) where
     -- the table has room for a mark
-    room : (v : ℕ) → Marked g v → length (entry v (c .place .functions) (c .table)) ≤ length (c .table)
+    room : (v : ℕ) → Marked g v → length (entry v (c .numbers .functions) (c .table)) ≤ length (c .table)
     room v k =
-        let t = take (c .place .functions) (c .table) in
+        let t = take (c .numbers .functions) (c .table) in
         omega (arith, marks-few g (enter v t) (rising-enter v t (f .rising)) (each-enter (Marked g) v t k (f .marked)), few, h .tabled)
 
-    counted-is : (v : ℕ) → Marked g v → countedIn v (c .place .functions) (c .table) ≡ length (entry v (c .place .functions) (c .table))
-    unfolding countedIn m.pick
-    counted-is v k = rw (le-ltb (length (c .table)) (length (entry v (c .place .functions) (c .table))) (room v k)) refl
+    counted-is : (v : ℕ) → Marked g v → countedIn v (c .numbers .functions) (c .table) ≡ length (entry v (c .numbers .functions) (c .table))
+    unfolding countedIn pick
+    counted-is v k = rw (le-ltb (length (c .table)) (length (entry v (c .numbers .functions) (c .table))) (room v k)) refl
 
-    entered-is : (v : ℕ) → Marked g v → enteredIn v (c .place .functions) (c .table) ≡ entry v (c .place .functions) (c .table) ++ drop (length (entry v (c .place .functions) (c .table))) (c .table)
-    unfolding enteredIn fill m.pick
-    entered-is v k = rw (le-ltb (length (c .table)) (length (entry v (c .place .functions) (c .table))) (room v k)) refl
+    entered-is : (v : ℕ) → Marked g v → enteredIn v (c .numbers .functions) (c .table) ≡ entry v (c .numbers .functions) (c .table) ++ drop (length (entry v (c .numbers .functions) (c .table))) (c .table)
+    unfolding enteredIn fill pick
+    entered-is v k = rw (le-ltb (length (c .table)) (length (entry v (c .numbers .functions) (c .table))) (room v k)) refl
 
     -- a mark entered in the table, and the calls xs
     enter-went : (v at d : ℕ) (cs xs : List ℕ) → Marked g v → Laid d (c .calls) cs → take d cs ≡ xs
-        → went (held (m.atPosition (m.ofFunctions (m.ofDepth (c .place) d) (countedIn v (c .place .functions) (c .table))) (at + 1)) cs (c .refs) (c .register) (c .tape) (enteredIn v (c .place .functions) (c .table)) (c .channel) (c .output))
+        → went (held (m.atPosition (m.ofFunctions (m.ofDepth (c .numbers) d) (countedIn v (c .numbers .functions) (c .table))) (at + 1)) cs (c .refs) (c .register) (c .tape) (enteredIn v (c .numbers .functions) (c .table)) (c .channel) (c .output))
         ≡ laid c (next (withTable (withCalls (goTo (view c) (suc at)) xs) (enter v (view c .table))))
     enter-went v at d cs xs k l q =
-        let e = entry v (c .place .functions) (c .table) in
+        let e = entry v (c .numbers .functions) (c .table) in
         rw (counted-is v k, entered-is v k)
         (meets c _ _ (over-calls c h _ _ _ _ _ _ l (laid-fill e (c .table) (length e) refl (room v k)))
         (rw (take-append-seam e (drop (length e) (c .table)), q, add-one at) refl))
 
     function-by : (at : ℕ) → Marked g at → (x : Option ℕ) → ((j : ℕ) → x ≡ some j → j < length ks)
-        → steering c (inTable (c .calls) (m.pick (leb (length ks) (placeOr (length ks) x)) (m.laned (m.hop 20 (c .place)) (c .table)) (m.laned (m.hop 0 (m.atPosition (m.ofFunctions (c .place) (countedIn at (c .place .functions) (c .table))) (placeOr (length ks) x + 1))) (enteredIn at (c .place .functions) (c .table)))))
+        → steering c (inTable (c .calls) (pick (leb (length ks) (placeOr (length ks) x)) (m.oneList (m.answered 20 (c .numbers)) (c .table)) (m.oneList (m.answered 0 (m.atPosition (m.ofFunctions (c .numbers) (countedIn at (c .numbers .functions) (c .table))) (placeOr (length ks) x + 1))) (enteredIn at (c .numbers .functions) (c .table)))))
         ≡ laid c (jump (withTable (view c) (enter at (view c .table))) x)
-    unfolding m.pick
+    unfolding pick
     function-by at k none b = rw (le-leb (length ks) (length ks) (omega arith)) refl
-    function-by at k (some j) b = rw (lt-leb (length ks) j (b j refl)) (enter-went at j (c .place .depth) (c .calls) (view c .calls) k (over-same c h .calls) refl)
+    function-by at k (some j) b = rw (lt-leb (length ks) j (b j refl)) (enter-went at j (c .numbers .depth) (c .calls) (view c .calls) k (over-same c h .calls) refl)
 
-    pub function-is : c .place .position < length ks → Marked g (c .place .position)
-        → steering c (inTable (c .calls) (functionOf ks (c .place) (c .table))) ≡ laid c (turn g function (view c))
+    pub function-is : c .numbers .position < length ks → Marked g (c .numbers .position)
+        → steering c (inTable (c .calls) (functionOf ks (c .numbers) (c .table))) ≡ laid c (turn g function (view c))
     unfolding functionOf endOf turn
     function-is here k =
-        let i = suc (c .place .position) in
-        rw (add-one (c .place .position), r .marked) (function-by (c .place .position) k (toEnd i 0 (drop i (map rowMark ks))) (partner toEnd end-below here))
+        let i = suc (c .numbers .position) in
+        rw (add-one (c .numbers .position), r .marked) (function-by (c .numbers .position) k (toEnd i 0 (drop i (map rowBracket ks))) (partner toEnd end-below here))
 
-    found-by : (x : Option ℕ) → ((j : ℕ) → x ≡ some j → Marked g j) → c .place .depth < 256
-        → steering c (m.pick (leb (length ks) (placeOr (length ks) x)) (m.steered (m.hop 29 (c .place)) (c .calls) (c .table)) (m.steered (m.hop 0 (m.atPosition (m.ofFunctions (m.ofDepth (c .place) (c .place .depth + 1)) (countedIn (placeOr (length ks) x) (c .place .functions) (c .table))) (placeOr (length ks) x + 1))) (lib.ListN.set (c .calls) (c .place .depth) (c .place .position)) (enteredIn (placeOr (length ks) x) (c .place .functions) (c .table))))
+    found-by : (x : Option ℕ) → ((j : ℕ) → x ≡ some j → Marked g j) → c .numbers .depth < 256
+        → steering c (pick (leb (length ks) (placeOr (length ks) x)) (m.steered (m.answered 29 (c .numbers)) (c .calls) (c .table)) (m.steered (m.answered 0 (m.atPosition (m.ofFunctions (m.ofDepth (c .numbers) (c .numbers .depth + 1)) (countedIn (placeOr (length ks) x) (c .numbers .functions) (c .table))) (placeOr (length ks) x + 1))) (lib.ListN.set (c .calls) (c .numbers .depth) (c .numbers .position)) (enteredIn (placeOr (length ks) x) (c .numbers .functions) (c .table))))
         ≡ laid c (found (view c) x)
-    unfolding m.pick
+    unfolding pick
     found-by none k b = rw (le-leb (length ks) (length ks) (omega arith)) refl
     found-by (some j) k b =
-        let d = c .place .depth in let at = c .place .position in
+        let d = c .numbers .depth in let at = c .numbers .position in
         let q = h .call-room in let y : d < length (c .calls) = omega arith in
         let l : j < length ks = omega (arith, function-below (g .ops) j (k j refl), r .many) in
         rw (lt-leb (length ks) j l)
         (enter-went j j (d + 1) (lib.ListN.set (c .calls) d at) (view c .calls ++ (at ∷ [])) (k j refl) (laid-push (c .calls) d at y) (pushed (c .calls) d at y))
 
-    pub call-is : 0 < c .place .lanes → steering c (callOf ks (c .place) (c .calls) (c .register) (c .table)) ≡ laid c (turn g call (view c))
-    unfolding callOf markOf m.pick turn bar pick
+    pub call-is : 0 < c .numbers .lanes → steering c (callOf ks (c .numbers) (c .calls) (c .register) (c .table)) ≡ laid c (turn g call (view c))
+    unfolding callOf markOf pick turn bar
     call-is w =
-        let v = getD (c .register) 0 0 in let d = c .place .depth in let u = c .place .functions in let at = c .place .position in
+        let v = getD (c .register) 0 0 in let d = c .numbers .depth in let u = c .numbers .functions in let at = c .numbers .position in
         let z = h .call-room in let o = over-same c h in
-        let l = getD-take (c .place .lanes) (c .register) 0 0 w in
+        let l = getD-take (c .numbers .lanes) (c .register) 0 0 w in
         let q = length-take-le d (c .calls) (let y = h .depth in omega arith) in
         let t = length-take-le u (c .table) (h .functions) in
         byCase (leb (2 ^ 63) v)

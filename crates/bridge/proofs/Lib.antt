@@ -10,4 +10,4 @@ pub mod Decoded
 pub mod Steps
 pub mod Real
 pub mod Runs
-pub mod Once
+pub mod LaidEachStep

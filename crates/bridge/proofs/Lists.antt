@@ -8,7 +8,7 @@ use lib.Seq.{length-take-le, drop-at, drop-set-lt, drop-drop}
 use Rattle.lane_loops.specs.Loops.{zipTo, mapTo, beside}
 use Rattle.byte_fields.specs.Bytes.{valuesAt}
 use Rattle.byte_fields.specs.Storage.{fill}
-use Rattle.hops.specs.Parts.{copied}
+use Rattle.machine_numbers.specs.Parts.{copied}
 
 -- n of `new` count, and the rest of it is as in `old`
 pub record Laid (n : ℕ) (old new : List ℕ) : Type 0 where

@@ -11,7 +11,7 @@ use Rattle.testing_device.specs.Device.{ring, fillRing}
 use Rattle.testing_device.proofs.Rings.{length-ring, ring-same, ring-fill, length-fillRing}
 use Rattle.machine_model.specs.State.{State}
 use Rattle.machine_model.specs.Step.Outcome.{next}
-use Rattle.hops.specs.declared.place.Place.{Place}
+use Rattle.machine_numbers.specs.declared.numbers.Numbers.{Numbers}
 use Rattle.machine_step.specs.Held.{Held, held, After}
 use Rattle.bridge.specs.View.{view, lay, laid, headOf}
 use Rattle.bridge.specs.Fits.{Counted}
@@ -19,24 +19,24 @@ use Rattle.bridge.proofs.Lists.{Laid, laid-same}
 
 -- d is c with counted entries changed, and no others
 pub record Over (c d : Held) : Type 0 where
-  pub calls : Laid (d .place .depth) (c .calls) (d .calls)
-  pub refs : Laid (d .place .saved) (c .refs) (d .refs)
-  pub register : Laid (d .place .lanes) (c .register) (d .register)
-  pub table : Laid (d .place .functions) (c .table) (d .table)
-  pub output : Laid (d .place .written) (c .output) (d .output)
-  pub channel : fillRing (c .channel) (d .place .first) (ring (d .channel) (d .place .first) (d .place .waiting)) ≡ d .channel
-  pub head : headOf (c .place) (d .place .waiting) ≡ d .place .first
+  pub calls : Laid (d .numbers .depth) (c .calls) (d .calls)
+  pub refs : Laid (d .numbers .saved) (c .refs) (d .refs)
+  pub register : Laid (d .numbers .lanes) (c .register) (d .register)
+  pub table : Laid (d .numbers .functions) (c .table) (d .table)
+  pub output : Laid (d .numbers .written) (c .output) (d .output)
+  pub channel : fillRing (c .channel) (d .numbers .first) (ring (d .channel) (d .numbers .first) (d .numbers .waiting)) ≡ d .channel
+  pub head : headOf (c .numbers) (d .numbers .waiting) ≡ d .numbers .first
 
 -- what agrees part by part is the same
-alike : {p q : Place} {cs cs′ rs rs′ g g′ t t′ ts ts′ ch ch′ o o′ : List ℕ} → p ≡ q → cs ≡ cs′ → rs ≡ rs′ → g ≡ g′ → t ≡ t′ → ts ≡ ts′ → ch ≡ ch′ → o ≡ o′
+alike : {p q : Numbers} {cs cs′ rs rs′ g g′ t t′ ts ts′ ch ch′ o o′ : List ℕ} → p ≡ q → cs ≡ cs′ → rs ≡ rs′ → g ≡ g′ → t ≡ t′ → ts ≡ ts′ → ch ≡ ch′ → o ≡ o′
     → held p cs rs g t ts ch o ≡ held q cs′ rs′ g′ t′ ts′ ch′ o′
 alike a b c d e f g h = rw (a, b, c, d, e, f, g, h) refl
 
 pub over-lay : (c d : Held) → Over c d → lay (view d) c ≡ d
 unfolding lay
 over-lay c d o =
-    let w = length-ring (d .channel) (d .place .first) (d .place .waiting) in
-    let f = ap (λ (n : ℕ). headOf (c .place) n) w ∙ o .head in
+    let w = length-ring (d .channel) (d .numbers .first) (d .numbers .waiting) in
+    let f = ap (λ (n : ℕ). headOf (c .numbers) n) w ∙ o .head in
     alike (rw (w, o .head, o .calls .count, o .refs .count, o .register .count, o .table .count, o .output .count) refl)
     (o .calls .whole)
     (o .refs .whole)
@@ -69,24 +69,24 @@ module _ (c : Held) (h : Counted c) where
 
   -- the numbers, the tape and the register changed
   pub over-reg : (at pt len n k : ℕ) (b : Bool) (r t : List ℕ) → Laid n (c .register) r
-      → Over c (held (record { depth = c .place .depth; saved = c .place .saved; pointer = pt; position = at; length = len; lanes = n; functions = c .place .functions; first = c .place .first; waiting = c .place .waiting; taken = k; written = c .place .written; halted = b }) (c .calls) (c .refs) r t (c .table) (c .channel) (c .output))
+      → Over c (held (record { depth = c .numbers .depth; saved = c .numbers .saved; pointer = pt; position = at; length = len; lanes = n; functions = c .numbers .functions; first = c .numbers .first; waiting = c .numbers .waiting; taken = k; written = c .numbers .written; halted = b }) (c .calls) (c .refs) r t (c .table) (c .channel) (c .output))
   over-reg at pt len n k b r t l =
       let o = over-same in record { calls = o .calls; refs = o .refs; register = l; table = o .table; output = o .output; channel = o .channel; head = o .head }
 
   -- the numbers and the tape
   pub over-num : (at pt len k : ℕ) (b : Bool) (t : List ℕ)
-      → Over c (held (record { depth = c .place .depth; saved = c .place .saved; pointer = pt; position = at; length = len; lanes = c .place .lanes; functions = c .place .functions; first = c .place .first; waiting = c .place .waiting; taken = k; written = c .place .written; halted = b }) (c .calls) (c .refs) (c .register) t (c .table) (c .channel) (c .output))
-  over-num at pt len k b t = over-reg at pt len (c .place .lanes) k b (c .register) t (over-same .register)
+      → Over c (held (record { depth = c .numbers .depth; saved = c .numbers .saved; pointer = pt; position = at; length = len; lanes = c .numbers .lanes; functions = c .numbers .functions; first = c .numbers .first; waiting = c .numbers .waiting; taken = k; written = c .numbers .written; halted = b }) (c .calls) (c .refs) (c .register) t (c .table) (c .channel) (c .output))
+  over-num at pt len k b t = over-reg at pt len (c .numbers .lanes) k b (c .register) t (over-same .register)
 
   -- the numbers, the call stack and the table
   pub over-calls : (at d u : ℕ) (b : Bool) (cs ts : List ℕ) → Laid d (c .calls) cs → Laid u (c .table) ts
-      → Over c (held (record { depth = d; saved = c .place .saved; pointer = c .place .pointer; position = at; length = c .place .length; lanes = c .place .lanes; functions = u; first = c .place .first; waiting = c .place .waiting; taken = c .place .taken; written = c .place .written; halted = b }) cs (c .refs) (c .register) (c .tape) ts (c .channel) (c .output))
+      → Over c (held (record { depth = d; saved = c .numbers .saved; pointer = c .numbers .pointer; position = at; length = c .numbers .length; lanes = c .numbers .lanes; functions = u; first = c .numbers .first; waiting = c .numbers .waiting; taken = c .numbers .taken; written = c .numbers .written; halted = b }) cs (c .refs) (c .register) (c .tape) ts (c .channel) (c .output))
   over-calls at d u b cs ts l m =
       let o = over-same in record { calls = l; refs = o .refs; register = o .register; table = m; output = o .output; channel = o .channel; head = o .head }
 
   -- the numbers and the saved pointers
   pub over-refs : (at pt len d : ℕ) (rs : List ℕ) → Laid d (c .refs) rs
-      → Over c (held (record { depth = c .place .depth; saved = d; pointer = pt; position = at; length = len; lanes = c .place .lanes; functions = c .place .functions; first = c .place .first; waiting = c .place .waiting; taken = c .place .taken; written = c .place .written; halted = c .place .halted }) (c .calls) rs (c .register) (c .tape) (c .table) (c .channel) (c .output))
+      → Over c (held (record { depth = c .numbers .depth; saved = d; pointer = pt; position = at; length = len; lanes = c .numbers .lanes; functions = c .numbers .functions; first = c .numbers .first; waiting = c .numbers .waiting; taken = c .numbers .taken; written = c .numbers .written; halted = c .numbers .halted }) (c .calls) rs (c .register) (c .tape) (c .table) (c .channel) (c .output))
   over-refs at pt len d rs l =
       let o = over-same in record { calls = o .calls; refs = l; register = o .register; table = o .table; output = o .output; channel = o .channel; head = o .head }
 
@@ -100,7 +100,7 @@ view-lay s c w b =
       take-append-seam (s .reg) (drop (length (s .reg)) (c .register)),
       take-append-seam (s .table) (drop (length (s .table)) (c .table)),
       take-append-seam (s .outs) (drop (length (s .outs)) (c .output)),
-      ring-fill (s .channel) (c .channel) (headOf (c .place) (length (s .channel))) w b,
+      ring-fill (s .channel) (c .channel) (headOf (c .numbers) (length (s .channel))) w b,
     ) refl
 
 fill-fits : (new old : List ℕ) → length new ≤ length (fill new old)

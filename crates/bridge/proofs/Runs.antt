@@ -6,37 +6,33 @@ use Prim.Native.Nat.{ℕ, zero, suc, _≤_}
 use lib.Dec.{leb}
 use lib.ListN.{length}
 use borrow.Author.Tests.{leb-false}
-use Rattle.testing_device.proofs.Words.{byCase}
+use Rattle.basics.specs.Pick.{pick}
+use Rattle.basics.proofs.Tests.{byCase, or-left, or-right}
+use Rattle.answers.specs.declared.run.Answer.the-variants.{Finished}
 use Rattle.machine_model.specs.State.{State, Given, fresh}
 use Rattle.machine_model.specs.Step.{Outcome, step}
 use Rattle.machine_model.specs.Step.Outcome.{finished, refused, next}
 use Rattle.machine_model.specs.Run.{drive, run}
 use Rattle.machine_model.specs.Formed.{Formed}
 use Rattle.machine_model.proofs.Kept.{step-formed, fresh-formed}
-use Rattle.machine_model.proofs.Outcomes.{or-right}
-use Rattle.hops.specs.Place.{pick}
 use Rattle.machine_step.specs.Held.{Held}
 use Rattle.machine_step.specs.Step.{stepOf}
 use Rattle.bridge.specs.View.{view, lay, laid}
-use Rattle.bridge.specs.Decoded.{codeOf, givenOf}
+use Rattle.bridge.specs.Decoded.{codeOf, givenOf, givenTo}
 use Rattle.bridge.specs.Fits.{Fits}
-use Rattle.bridge.specs.Run.{ran, driveIn, runIn, seen, isOver, runOf}
+use Rattle.bridge.specs.Run.{ran, driveLaid, runLaid, seen, isOver, runOf}
 use Rattle.bridge.proofs.Over.{view-lay, lay-counted, lay-room}
 use Rattle.bridge.proofs.Decoded.{Bytes, rows, limited}
 use Rattle.bridge.proofs.Real.{Real, step-real, step-over}
 use Rattle.bridge.proofs.Real.Real.{goes, stops}
 use Rattle.bridge.proofs.Steps.{step-is}
 
-or-left : (a b : Bool) → (a || b) ≡ false → a ≡ false
-or-left true b e = e
-or-left false b e = refl
-
 -- ---- what a step hands to the next
 
 module _ (s input : List ℕ) where
   -- a state of the patch, laid over what is as large as its limits
   lay-over : (t : State) (c : Held) → 1024 ≤ length (c .register) → 256 ≤ length (c .table) → 256 ≤ length (c .channel) → length (c .calls) ≡ 256 → length (c .refs) ≡ 256
-      → Formed (givenOf s input (length (c .output))) t → Fits s input (lay t c)
+      → Formed (givenTo s input c) t → Fits s input (lay t c)
   unfolding givenOf
   lay-over t c w u r kc kr f =
       record {
@@ -45,13 +41,13 @@ module _ (s input : List ℕ) where
       }
 
   -- a state of the patch laid over what fits it fits it
-  pub lay-fits : (t : State) (c : Held) → Fits s input c → Formed (givenOf s input (length (c .output))) t → Fits s input (lay t c)
+  pub lay-fits : (t : State) (c : Held) → Fits s input c → Formed (givenTo s input c) t → Fits s input (lay t c)
   lay-fits t c h f = let k = h .counted in lay-over t c (k .wide) (k .tabled) (k .ringed) (k .call-room) (k .ref-room) f
 
   module _ (b : Bytes s) where
     -- and so does the next state of a step
-    pub step-fits : (t : State) (c : Held) → Fits s input c → step (givenOf s input (length (c .output))) (view c) ≡ next t → Fits s input (lay t c)
-    step-fits t c h e = lay-fits t c h (step-formed (givenOf s input (length (c .output))) (limited s b input (length (c .output))) (view c) t (h .formed) e)
+    pub step-fits : (t : State) (c : Held) → Fits s input c → step (givenTo s input c) (view c) ≡ next t → Fits s input (lay t c)
+    step-fits t c h e = lay-fits t c h (step-formed (givenTo s input c) (limited s b input (length (c .output))) (view c) t (h .formed) e)
 
     module _ (room : ℕ) where
       abbrev given : Given
@@ -85,30 +81,30 @@ module _ (s input : List ℕ) where
       over : Held → Bool
       over c = isOver (codeOf s) c
 
-      over-is : (c : Held) → (c .place .halted || leb (length (given .ops)) (c .place .position)) ≡ over c
+      over-is : (c : Held) → (c .numbers .halted || leb (length (given .ops)) (c .numbers .position)) ≡ over c
       unfolding over
-      over-is c = ap (λ (n : ℕ). c .place .halted || leb n (c .place .position)) (rows s input room .many)
+      over-is c = ap (λ (n : ℕ). c .numbers .halted || leb n (c .numbers .position)) (rows s input room .many)
 
-      code-over : (n k : ℕ) (c : Held) → over c ≡ true → runOf n k (codeOf s) input c ≡ ran 0 k c
+      code-over : (n k : ℕ) (c : Held) → over c ≡ true → runOf n k (codeOf s) input c ≡ ran Finished k c
       unfolding runOf pick over
       code-over zero k c e = rw e refl
       code-over (suc n) k c e = rw e refl
 
-      in-over : (n k : ℕ) (c : Held) (o : Outcome) → o ≡ finished → driveIn given n k c o ≡ ran 0 k c
-      unfolding driveIn
+      in-over : (n k : ℕ) (c : Held) (o : Outcome) → o ≡ finished → driveLaid given n k c o ≡ ran Finished k c
+      unfolding driveLaid
       in-over zero k c o e = rw e refl
       in-over (suc n) k c o e = rw e refl
 
-      spent : (k : ℕ) (c : Held) → over c ≡ false → (o : Outcome) → Real o → runOf 0 k (codeOf s) input c ≡ driveIn given 0 k c o
-      unfolding runOf pick driveIn over
+      spent : (k : ℕ) (c : Held) → over c ≡ false → (o : Outcome) → Real o → runOf 0 k (codeOf s) input c ≡ driveLaid given 0 k c o
+      unfolding runOf pick driveLaid over
       spent k c e _ (goes t) = rw e refl
       spent k c e _ (stops n z) = rw e refl
 
       turns : (n k : ℕ) (c : Held) → over c ≡ false
-          → ((t : State) → step given (view c) ≡ next t → runOf n (suc k) (codeOf s) input (lay t c) ≡ driveIn given n (suc k) (lay t c) (step given (view (lay t c))))
+          → ((t : State) → step given (view c) ≡ next t → runOf n (suc k) (codeOf s) input (lay t c) ≡ driveLaid given n (suc k) (lay t c) (step given (view (lay t c))))
           → (o : Outcome) → Real o → step given (view c) ≡ o → stepOf (codeOf s) input c ≡ laid c o
-          → runOf (suc n) k (codeOf s) input c ≡ driveIn given (suc n) k c o
-      unfolding runOf pick driveIn over
+          → runOf (suc n) k (codeOf s) input c ≡ driveLaid given (suc n) k c o
+      unfolding runOf pick driveLaid over
       turns n k c e less _ (goes t) q r = rw (e, r) (less t q)
       turns n k c e less _ (stops m z) q r = rw (e, r, z) refl
 
@@ -121,12 +117,12 @@ module _ (s input : List ℕ) where
       stepped : (c : Held) → Sound c → over c ≡ false → stepOf (codeOf s) input c ≡ laid c (step given (view c))
       unfolding over
       stepped c h e =
-          step-is s input c (h .fits) (leb-false (length (codeOf s .kinds)) (c .place .position) (or-right (c .place .halted) _ e)) (or-left (c .place .halted) _ e)
+          step-is s input c (h .fits) (leb-false (length (codeOf s .rows)) (c .numbers .position) (or-right (c .numbers .halted) _ e)) (or-left (c .numbers .halted) _ e)
           ∙ ap (λ (r : ℕ). laid c (step (givenOf s input r) (view c))) (h .roomy)
 
       -- ---- the run
 
-      drives : (n k : ℕ) (c : Held) → Sound c → runOf n k (codeOf s) input c ≡ driveIn given n k c (step given (view c))
+      drives : (n k : ℕ) (c : Held) → Sound c → runOf n k (codeOf s) input c ≡ driveLaid given n k c (step given (view c))
       drives zero k c h =
           byCase (over c)
           (λ e. code-over 0 k c e ∙ sym (in-over 0 k c _ (ended c e)))
@@ -136,8 +132,8 @@ module _ (s input : List ℕ) where
           (λ e. code-over (suc n) k c e ∙ sym (in-over (suc n) k c _ (ended c e)))
           (λ e. turns n k c e (λ t q. drives n (suc k) (lay t c) (sound-next c t h q)) _ (real c e) refl (stepped c h e))
 
-      shows : (n k : ℕ) (c : Held) (o : Outcome) → Sound c → step given (view c) ≡ o → seen (driveIn given n k c o) ≡ drive given n k (view c) o
-      unfolding driveIn drive
+      shows : (n k : ℕ) (c : Held) (o : Outcome) → Sound c → step given (view c) ≡ o → seen (driveLaid given n k c o) ≡ drive given n k (view c) o
+      unfolding driveLaid drive
       shows zero k c finished h q = refl
       shows zero k c (refused m) h q = refl
       shows zero k c (next t) h q = refl
@@ -148,13 +144,13 @@ module _ (s input : List ℕ) where
           ∙ ap (λ (u : State). drive given n (suc k) u (step given u)) (seen-next c t h q)
 
     -- the code's run is the model's run, laid after each step
-    pub run-laid : (n : ℕ) (c : Held) → Fits s input c → runOf n 0 (codeOf s) input c ≡ runIn (givenOf s input (length (c .output))) n c
-    unfolding runIn
+    pub run-laid : (n : ℕ) (c : Held) → Fits s input c → runOf n 0 (codeOf s) input c ≡ runLaid (givenTo s input c) n c
+    unfolding runLaid
     run-laid n c h = drives (length (c .output)) n 0 c (record { fits = h; roomy = refl })
 
     -- and what is seen of that is the model's answer
-    pub run-seen : (n : ℕ) (c : Held) → Fits s input c → seen (runIn (givenOf s input (length (c .output))) n c) ≡ run (givenOf s input (length (c .output))) n (view c)
-    unfolding runIn run
+    pub run-seen : (n : ℕ) (c : Held) → Fits s input c → seen (runLaid (givenTo s input c) n c) ≡ run (givenTo s input c) n (view c)
+    unfolding runLaid run
     run-seen n c h = shows (length (c .output)) n 0 c _ (record { fits = h; roomy = refl }) refl
 
   -- ---- the fresh run
@@ -162,4 +158,4 @@ module _ (s input : List ℕ) where
   -- the fresh state fits, laid over what is as large as the limits
   pub fresh-fits : (cells : ℕ) (c : Held) → 1024 ≤ length (c .register) → 256 ≤ length (c .table) → 256 ≤ length (c .channel) → length (c .calls) ≡ 256 → length (c .refs) ≡ 256
       → Fits s input (lay (fresh cells) c)
-  fresh-fits cells c w u r kc kr = lay-over (fresh cells) c w u r kc kr (fresh-formed (givenOf s input (length (c .output))) cells)
+  fresh-fits cells c w u r kc kr = lay-over (fresh cells) c w u r kc kr (fresh-formed (givenTo s input c) cells)

@@ -2,17 +2,22 @@
 use mathlib.Core.Path.{_≡_}
 use mathlib.Core.List.{List, map}
 use Prim.Native.Nat.{ℕ}
-use Rattle.ops.specs.Patch.{Item, patchOf, kindIn, countIn, needIn, placeIn}
-use Rattle.ops.specs.Ops.{opAt}
-use Rattle.ops.specs.Op.{Op}
+use lib.ListN.{length}
+use Rattle.ops.specs.Patch.{Item, patchOf, rowIn, countIn, needIn, payloadIn}
+use Rattle.ops.specs.Decode.{opAt}
+use Rattle.ops.specs.Syntax.{Op}
 use Rattle.machine_model.specs.State.{Given}
-use Rattle.machine_step.specs.Held.{Code, code}
+use Rattle.machine_step.specs.Held.{Held, Code, code}
 
 -- the file s as the machine reads it
 unfoldable pub codeOf : List ℕ → Code
 codeOf s =
-    code (map kindIn (patchOf s .items)) (map countIn (patchOf s .items)) (map needIn (patchOf s .items)) (map placeIn (patchOf s .items)) s
+    code (map rowIn (patchOf s .items)) (map countIn (patchOf s .items)) (map needIn (patchOf s .items)) (map payloadIn (patchOf s .items)) s
 
 -- what a run of it is given: the ops that its bytes mean, the input, and room for so many outputs
 unfoldable pub givenOf : List ℕ → List ℕ → ℕ → Given
 givenOf s input room = record { ops = map (opAt s) (patchOf s .items); input = input; room = room }
+
+-- the same where the output of c is lent
+abbrev pub givenTo : List ℕ → List ℕ → Held → Given
+givenTo s input c = givenOf s input (length (c .output))

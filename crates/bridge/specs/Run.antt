@@ -5,51 +5,56 @@ use mathlib.Core.List.{List}
 use Prim.Native.Nat.{ℕ, zero, suc}
 use lib.ListN.{length}
 use lib.Dec.{leb, eqb}
+use Rattle.basics.specs.Pick.{pick}
+use Rattle.answers.specs.Run.{numberOf, placeOf}
+use Rattle.answers.specs.declared.run.Answer.{Answer}
+use Rattle.answers.specs.declared.run.Answer.the-variants.{Finished, Spent, Refused}
 use Rattle.machine_model.specs.State.{Given}
 use Rattle.machine_model.specs.Step.{Outcome, step}
 use Rattle.machine_model.specs.Step.Outcome.{finished, refused, next}
-use Rattle.machine_model.specs.Run.{Answer}
-use Rattle.hops.specs.Place.{pick}
+use Rattle.machine_model.specs.Run as model
 use Rattle.machine_step.specs.Held.{Held, After, Code}
 use Rattle.machine_step.specs.Step.{stepOf}
 use Rattle.bridge.specs.View.{view, lay}
 
+-- what a run leaves: its answer, the steps made, and all that the machine holds
 pub record Ran : Type 0 where
-  pub number : ℕ
+  pub answer : Answer
   pub steps : ℕ
-  pub place : ℕ
   pub held : Held
 
-abbrev pub ran : ℕ → ℕ → Held → Ran
-ran n k c = record { number = n; steps = k; place = c .place .position; held = c }
+abbrev pub ran : Answer → ℕ → Held → Ran
+ran a k c = record { answer = a; steps = k; held = c }
 
--- b steps may still be made, k are made, and o is what the model's step gives on what is seen of c
-unfoldable pub driveIn : Given → ℕ → ℕ → Held → Outcome → Ran
-driveIn g zero k c finished = ran 0 k c
-driveIn g zero k c (refused n) = ran 50 k c
-driveIn g zero k c (next s) = ran 50 k c
-driveIn g (suc b) k c finished = ran 0 k c
-driveIn g (suc b) k c (refused n) = ran n k c
-driveIn g (suc b) k c (next s) = driveIn g b (suc k) (lay s c) (step g (view (lay s c)))
+-- b steps may still be made, k are made, and o is what the model's step gives on what is seen of c: "halted or at the end gives 0; steps equal to
+-- budget gives 50", before any refusal
+unfoldable pub driveLaid : Given → ℕ → ℕ → Held → Outcome → Ran
+driveLaid g zero k c finished = ran Finished k c
+driveLaid g zero k c (refused n) = ran Spent k c
+driveLaid g zero k c (next s) = ran Spent k c
+driveLaid g (suc b) k c finished = ran Finished k c
+driveLaid g (suc b) k c (refused n) = ran (Refused n) k c
+driveLaid g (suc b) k c (next s) = driveLaid g b (suc k) (lay s c) (step g (view (lay s c)))
 
-unfoldable pub runIn : Given → ℕ → Held → Ran
-unfolding driveIn
-runIn g b c = driveIn g b 0 c (step g (view c))
+unfoldable pub runLaid : Given → ℕ → Held → Ran
+unfolding driveLaid
+runLaid g b c = driveLaid g b 0 c (step g (view c))
 
--- what is seen of a run
-abbrev pub seen : Ran → Answer
-seen r = record { number = r .number; steps = r .steps; place = r .place; state = view (r .held) }
+-- what is seen of a run: 01's number and place of its answer, the steps, and the state
+abbrev pub seen : Ran → model.Answer
+seen r =
+    record { number = numberOf (r .answer); steps = r .steps; place = placeOf (r .answer) (r .held .numbers .position); state = view (r .held) }
 
 -- ---- the run as the code makes it
 
 -- halted, or past the last op
 abbrev pub isOver : Code → Held → Bool
-isOver x c = c .place .halted || leb (length (x .kinds)) (c .place .position)
+isOver x c = c .numbers .halted || leb (length (x .rows)) (c .numbers .position)
 
 unfoldable pub runOf : ℕ → ℕ → Code → List ℕ → Held → Ran
 unfolding pick
-runOf zero k x input c = pick (isOver x c) (ran 0 k c) (ran 50 k c)
+runOf zero k x input c = pick (isOver x c) (ran Finished k c) (ran Spent k c)
 runOf (suc b) k x input c =
     let o = stepOf x input c in
     let rest = runOf b (suc k) x input (o .held) in
-    pick (isOver x c) (ran 0 k c) (pick (eqb (o .number) 0) rest (ran (o .number) k (o .held)))
+    pick (isOver x c) (ran Finished k c) (pick (eqb (o .number) 0) rest (ran (Refused (o .number)) k (o .held)))

@@ -3,39 +3,40 @@
 use mathlib.Core.List.{List}
 use Prim.Native.Nat.{ℕ, _+_, _-_, _%_}
 use lib.ListN.{length, take}
+use Rattle.basics.specs.Limits as limit
 use Rattle.byte_fields.specs.Storage.{fill}
 use Rattle.testing_device.specs.Device.{ring, fillRing}
 use Rattle.machine_model.specs.State.{State}
 use Rattle.machine_model.specs.Step.{Outcome}
 use Rattle.machine_model.specs.Step.Outcome.{finished, refused, next}
-use Rattle.hops.specs.declared.place.Place.{Place}
+use Rattle.machine_numbers.specs.declared.numbers.Numbers.{Numbers}
 use Rattle.machine_step.specs.Held.{Held, After}
 
 abbrev pub view : Held → State
 view c =
     record {
-      at = c .place .position;
-      pointer = c .place .pointer;
-      counted = c .place .length;
-      reg = take (c .place .lanes) (c .register);
+      at = c .numbers .position;
+      pointer = c .numbers .pointer;
+      counted = c .numbers .length;
+      reg = take (c .numbers .lanes) (c .register);
       tape = c .tape;
-      table = take (c .place .functions) (c .table);
-      calls = take (c .place .depth) (c .calls);
-      refs = take (c .place .saved) (c .refs);
-      channel = ring (c .channel) (c .place .first) (c .place .waiting);
-      taken = c .place .taken;
-      outs = take (c .place .written) (c .output);
-      halted = c .place .halted;
+      table = take (c .numbers .functions) (c .table);
+      calls = take (c .numbers .depth) (c .calls);
+      refs = take (c .numbers .saved) (c .refs);
+      channel = ring (c .channel) (c .numbers .first) (c .numbers .waiting);
+      taken = c .numbers .taken;
+      outs = take (c .numbers .written) (c .output);
+      halted = c .numbers .halted;
     }
 
 -- the ring's first place after a step: a step takes one value at most, and then has one fewer
-abbrev pub headOf : Place → ℕ → ℕ
-headOf p n = (p .first + (p .waiting - n)) % 256
+abbrev pub headOf : Numbers → ℕ → ℕ
+headOf p n = (p .first + (p .waiting - n)) % limit.depth
 
 unfoldable pub lay : State → Held → Held
 lay s c =
     record {
-      place = record {
+      numbers = record {
         depth = length (s .calls);
         saved = length (s .refs);
         pointer = s .pointer;
@@ -43,7 +44,7 @@ lay s c =
         length = s .counted;
         lanes = length (s .reg);
         functions = length (s .table);
-        first = headOf (c .place) (length (s .channel));
+        first = headOf (c .numbers) (length (s .channel));
         waiting = length (s .channel);
         taken = s .taken;
         written = length (s .outs);
@@ -54,7 +55,7 @@ lay s c =
       register = fill (s .reg) (c .register);
       tape = s .tape;
       table = fill (s .table) (c .table);
-      channel = fillRing (c .channel) (headOf (c .place) (length (s .channel))) (s .channel);
+      channel = fillRing (c .channel) (headOf (c .numbers) (length (s .channel))) (s .channel);
       output = fill (s .outs) (c .output);
     }
 

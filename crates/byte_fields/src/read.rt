@@ -4,18 +4,13 @@ ghost use Prim.Native.Nat.{_+_, _*_, _<_, _≤_};
 ghost use lib.ListN.{length};
 ghost use Rattle.byte_fields.specs.Bytes.{u16At, u32At, u64At, valuesAt};
 ghost use Rattle.byte_fields.specs.Storage.{fill};
-
-pub fn wide(b: u8) -> usize
-    ensures { λ r. ⌜ (r ≡ b) × (r < 256) ⌝ }
-{
-    b as usize
-}
+use basics::wide::wide_byte;
 
 pub fn u16_at(bytes: &[u8], at: usize) -> usize
     requires { ⌜ at + 2 ≤ length (now bytes) ⌝ }
     ensures { λ r. ⌜ (r ≡ u16At (now (bytes .entry)) at) × (r < 65536) ⌝ }
 {
-    wide(bytes[at]) + 256 * wide(bytes[at + 1])
+    wide_byte(bytes[at]) + 256 * wide_byte(bytes[at + 1])
 }
 
 pub fn u32_at(bytes: &[u8], at: usize) -> usize

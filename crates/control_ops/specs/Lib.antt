@@ -1,1 +1,2 @@
+pub mod CanSteer
 pub mod Control

@@ -1,35 +1,39 @@
 // The ops that steer: Function, Call, Return, While, If, Else, End.
 ghost use mathlib.Core.Path.{_≡_};
-ghost use Prim.Native.Nat.{ℕ, _+_, _≤_, _<_};
-ghost use lib.ListN.{length, take};
-ghost use Rattle.hops.specs.Place.{laned, steered};
-ghost use Rattle.searches.specs.Found.{endOf, elseOf, openOf};
+ghost use Prim.Native.Nat.{_+_, _≤_, _<_};
+ghost use lib.ListN.{length, getD, take};
+ghost use Rattle.basics.specs.Limits.{mostOps, lanes, depth};
+ghost use Rattle.machine_numbers.specs.Numbers.{oneList, steered};
+ghost use Rattle.searches.specs.Found.{endOf, elseOf, openOf, partnerOf};
+ghost use Rattle.control_ops.specs.CanSteer.{CanSteer};
 ghost use Rattle.control_ops.specs.Control.{jumpOf, functionOf, callOf, retOf, whileOf, ifOf, elsesOf, endsOf, controlOf};
 ghost use Rattle.machine_model.specs.Formed.{Rising};
-use hops::place::Hop;
-use hops::place::Place;
-use hops::wide::wide;
+use basics::wide::wide_short;
+use kind_table::row;
+use machine_numbers::numbers::Numbers;
+use machine_numbers::numbers::OpAnswer;
+use machine_numbers::numbers::SIGN;
 use searches::scan;
 use searches::table;
 
 // After the op at e; 20 where there is none.
-fn jump(h: Place, kinds: &[u8], e: usize) -> Hop
-    requires { ⌜ length (now kinds) ≤ 4096 ⌝ }
-    ensures { λ r. ⌜ r ≡ jumpOf (now (kinds .entry)) h e ⌝ }
+fn jump(h: Numbers, rows: &[u8], e: usize) -> OpAnswer
+    requires { ⌜ length (now rows) ≤ mostOps ⌝ }
+    ensures { λ r. ⌜ r ≡ jumpOf (now (rows .entry)) h e ⌝ }
 {
-    if kinds.len() <= e {
+    if rows.len() <= e {
         return h.refuse(20);
     }
     h.goto(e + 1)
 }
 
-fn function(mut h: Place, kinds: &[u8], end: usize, table: &mut [u16]) -> Hop
-    requires { ⌜ (end ≡ endOf (now kinds) (h .position + 1)) × (h .position < length (now kinds)) × (length (now kinds) ≤ 4096) × (h .functions ≤ length (now table)) × Rising (take (h .functions) (now table)) ⌝ }
-    ensures { λ r. ⌜ laned r (now (table .exit)) ≡ functionOf (now (kinds .entry)) h (now (table .entry)) ⌝ }
+fn function(mut h: Numbers, rows: &[u8], end: usize, table: &mut [u16]) -> OpAnswer
+    requires { ⌜ (end ≡ endOf (now rows) (h .position + 1)) × (h .position < length (now rows)) × (length (now rows) ≤ mostOps) × (h .functions ≤ length (now table)) × Rising (take (h .functions) (now table)) ⌝ }
+    ensures { λ r. ⌜ oneList r (now (table .exit)) ≡ functionOf (now (rows .entry)) h (now (table .entry)) ⌝ }
 {
     let p = h.position;
     let n = h.functions;
-    if kinds.len() <= end {
+    if rows.len() <= end {
         return h.refuse(20);
     }
     h.functions = table::enter(table, n, p as u16);
@@ -37,34 +41,34 @@ fn function(mut h: Place, kinds: &[u8], end: usize, table: &mut [u16]) -> Hop
 }
 
 fn call(
-    mut h: Place,
-    kinds: &[u8],
-    calls: &mut [u16; 256],
+    mut h: Numbers,
+    rows: &[u8],
+    calls: &mut [u16; Numbers::CALLS],
     register: &[u64],
     table: &mut [u16],
-) -> Hop
-    requires { ⌜ (h .position < length (now kinds)) × (length (now kinds) ≤ 4096) × (1024 ≤ length (now register)) × (length (now calls) ≡ 256) × (h .functions ≤ length (now table)) × Rising (take (h .functions) (now table)) ⌝ }
-    ensures { λ r. ⌜ steered r (now (calls .exit)) (now (table .exit)) ≡ callOf (now (kinds .entry)) h (now (calls .entry)) (now (register .entry)) (now (table .entry)) ⌝ }
+) -> OpAnswer
+    requires { ⌜ CanSteer h (now rows) (now calls) (now register) (now table) ⌝ }
+    ensures { λ r. ⌜ steered r (now (calls .exit)) (now (table .exit)) ≡ callOf (now (rows .entry)) h (now (calls .entry)) (now (register .entry)) (now (table .entry)) ⌝ }
 {
     let d = h.depth;
     let p = h.position;
     let n = h.functions;
     let k = register[0];
-    if 0x8000000000000000 <= k {
+    if SIGN <= k {
         return h.refuse(28);
     }
-    if 256 <= d {
+    if Numbers::CALLS <= d {
         return h.refuse(32);
     }
     let j = k as usize;
     if j < n {
         calls[d] = p as u16;
         h.depth = d + 1;
-        let to = wide(table[j]);
+        let to = wide_short(table[j]);
         return h.goto(to + 1);
     }
-    let m = scan::nth_function(kinds, k);
-    if kinds.len() <= m {
+    let m = scan::nth_function(rows, k);
+    if rows.len() <= m {
         return h.refuse(29);
     }
     calls[d] = p as u16;
@@ -73,8 +77,8 @@ fn call(
     h.goto(m + 1)
 }
 
-fn ret(mut h: Place, calls: &[u16; 256]) -> Hop
-    requires { ⌜ (h .position < 4096) × (h .depth ≤ 256) × (length (now calls) ≡ 256) ⌝ }
+fn ret(mut h: Numbers, calls: &[u16; Numbers::CALLS]) -> OpAnswer
+    requires { ⌜ (h .position < mostOps) × (h .depth ≤ depth) × (length (now calls) ≡ depth) ⌝ }
     ensures { λ r. ⌜ r ≡ retOf h (now (calls .entry)) ⌝ }
 {
     let d = h.depth;
@@ -83,49 +87,49 @@ fn ret(mut h: Place, calls: &[u16; 256]) -> Hop
         return h.next();
     }
     let e = d - 1;
-    let p = wide(calls[e]);
+    let p = wide_short(calls[e]);
     h.depth = e;
     h.goto(p + 1)
 }
 
-fn while_op(h: Place, kinds: &[u8], end: usize, register: &[u64]) -> Hop
-    requires { ⌜ (end ≡ endOf (now kinds) (h .position + 1)) × (h .position < length (now kinds)) × (length (now kinds) ≤ 4096) × (1024 ≤ length (now register)) ⌝ }
-    ensures { λ r. ⌜ r ≡ whileOf (now (kinds .entry)) h (now (register .entry)) ⌝ }
+fn while_op(h: Numbers, rows: &[u8], end: usize, register: &[u64]) -> OpAnswer
+    requires { ⌜ (end ≡ endOf (now rows) (h .position + 1)) × (h .position < length (now rows)) × (length (now rows) ≤ mostOps) × (lanes ≤ length (now register)) ⌝ }
+    ensures { λ r. ⌜ r ≡ whileOf (now (rows .entry)) h (now (register .entry)) ⌝ }
 {
     if register[0] == 0 {
-        return jump(h, kinds, end);
+        return jump(h, rows, end);
     }
     h.next()
 }
 
-fn if_op(h: Place, kinds: &[u8], turn: usize, register: &[u64]) -> Hop
-    requires { ⌜ (turn ≡ elseOf (now kinds) (h .position + 1)) × (h .position < length (now kinds)) × (length (now kinds) ≤ 4096) × (1024 ≤ length (now register)) ⌝ }
-    ensures { λ r. ⌜ r ≡ ifOf (now (kinds .entry)) h (now (register .entry)) ⌝ }
+fn if_op(h: Numbers, rows: &[u8], turn: usize, register: &[u64]) -> OpAnswer
+    requires { ⌜ (turn ≡ elseOf (now rows) (h .position + 1)) × (h .position < length (now rows)) × (length (now rows) ≤ mostOps) × (lanes ≤ length (now register)) ⌝ }
+    ensures { λ r. ⌜ r ≡ ifOf (now (rows .entry)) h (now (register .entry)) ⌝ }
 {
     if register[0] == 0 {
-        return jump(h, kinds, turn);
+        return jump(h, rows, turn);
     }
     h.next()
 }
 
-fn else_op(h: Place, kinds: &[u8], end: usize) -> Hop
-    requires { ⌜ (end ≡ endOf (now kinds) (h .position + 1)) × (h .position < length (now kinds)) × (length (now kinds) ≤ 4096) ⌝ }
-    ensures { λ r. ⌜ r ≡ elsesOf (now (kinds .entry)) h ⌝ }
+fn else_op(h: Numbers, rows: &[u8], end: usize) -> OpAnswer
+    requires { ⌜ (end ≡ endOf (now rows) (h .position + 1)) × (h .position < length (now rows)) × (length (now rows) ≤ mostOps) ⌝ }
+    ensures { λ r. ⌜ r ≡ elsesOf (now (rows .entry)) h ⌝ }
 {
-    jump(h, kinds, end)
+    jump(h, rows, end)
 }
 
-fn end(h: Place, kinds: &[u8], opener: usize, register: &[u64]) -> Hop
-    requires { ⌜ (opener ≡ openOf (now kinds) (h .position)) × (h .position < length (now kinds)) × (length (now kinds) ≤ 4096) × (1024 ≤ length (now register)) ⌝ }
-    ensures { λ r. ⌜ r ≡ endsOf (now (kinds .entry)) h (now (register .entry)) ⌝ }
+fn end(h: Numbers, rows: &[u8], opener: usize, register: &[u64]) -> OpAnswer
+    requires { ⌜ (opener ≡ openOf (now rows) (h .position)) × (h .position < length (now rows)) × (length (now rows) ≤ mostOps) × (lanes ≤ length (now register)) ⌝ }
+    ensures { λ r. ⌜ r ≡ endsOf (now (rows .entry)) h (now (register .entry)) ⌝ }
 {
     if register[0] == 0 {
         return h.next();
     }
-    if kinds.len() <= opener {
+    if rows.len() <= opener {
         return h.next();
     }
-    if kinds[opener] == 5 {
+    if rows[opener] == row::WHILE {
         return h.goto(opener + 1);
     }
     h.next()
@@ -133,25 +137,25 @@ fn end(h: Place, kinds: &[u8], opener: usize, register: &[u64]) -> Hop
 
 // The op of row k, whose partner stands at `with`.
 pub fn control(
-    h: Place,
+    h: Numbers,
     k: u8,
     with: usize,
-    kinds: &[u8],
-    calls: &mut [u16; 256],
+    rows: &[u8],
+    calls: &mut [u16; Numbers::CALLS],
     register: &[u64],
     table: &mut [u16],
-) -> Hop
-    requires { ⌜ (h .position < length (now kinds)) × (length (now kinds) ≤ 4096) × (1024 ≤ length (now register)) × (length (now calls) ≡ 256) × (h .depth ≤ 256) × (h .functions ≤ length (now table)) × Rising (take (h .functions) (now table)) × (k ≡ 2 → with ≡ endOf (now kinds) (h .position + 1)) × (k ≡ 5 → with ≡ endOf (now kinds) (h .position + 1)) × (k ≡ 6 → with ≡ elseOf (now kinds) (h .position + 1)) × (k ≡ 7 → with ≡ endOf (now kinds) (h .position + 1)) × (k ≡ 8 → with ≡ openOf (now kinds) (h .position)) ⌝ }
-    ensures { λ r. ⌜ steered r (now (calls .exit)) (now (table .exit)) ≡ controlOf k (now (kinds .entry)) h (now (calls .entry)) (now (register .entry)) (now (table .entry)) ⌝ }
+) -> OpAnswer
+    requires { ⌜ CanSteer h (now rows) (now calls) (now register) (now table) × (k ≡ getD (now rows) (h .position) 0) × (with ≡ partnerOf (now rows) (h .position)) ⌝ }
+    ensures { λ r. ⌜ steered r (now (calls .exit)) (now (table .exit)) ≡ controlOf k (now (rows .entry)) h (now (calls .entry)) (now (register .entry)) (now (table .entry)) ⌝ }
 {
     match k {
-        2 => function(h, kinds, with, table),
-        3 => call(h, kinds, calls, register, table),
-        4 => ret(h, calls),
-        5 => while_op(h, kinds, with, register),
-        6 => if_op(h, kinds, with, register),
-        7 => else_op(h, kinds, with),
-        8 => end(h, kinds, with, register),
+        row::FUNCTION => function(h, rows, with, table),
+        row::CALL => call(h, rows, calls, register, table),
+        row::RETURN => ret(h, calls),
+        row::WHILE => while_op(h, rows, with, register),
+        row::IF => if_op(h, rows, with, register),
+        row::ELSE => else_op(h, rows, with),
+        row::END => end(h, rows, with, register),
         _ => h.next(),
     }
 }

@@ -5,7 +5,7 @@ use Prim.Native.Nat.{ℕ}
 use Rattle.ops.specs.declared.op.Mode.{Mode}
 use Rattle.testing_device.specs.Device.{getOf, putOf}
 use Rattle.testing_device.specs.Room.{Left, left, putIn}
-use Rattle.testing_device.specs.Channel.{Held, held, peekOf, pokeIn}
+use Rattle.testing_device.specs.Channel.{PokeLeft, pokeLeft, peekOf, pokeIn}
 use Rattle.testing_device.specs.declared.device.Got.{Got}
 use Rattle.testing_device.specs.declared.device.Put.{Put}
 use Rattle.testing_device.specs.declared.device.Peeked.{Peeked}
@@ -21,6 +21,6 @@ put-coincides m v o n a b p q e f = (ap (λ (l : Left). l .answer) (e ∙ sym f)
 pub peek-coincides : (ch : List ℕ) (first waiting : ℕ) (a b : Peeked) → a ≡ peekOf ch first waiting → b ≡ peekOf ch first waiting → a ≡ b
 peek-coincides ch first waiting a b e f = e ∙ sym f
 
-pub poke-coincides : (v : ℕ) (ch : List ℕ) (first waiting : ℕ) (a b : Poked) (p q : List ℕ) → held a p ≡ pokeIn v ch first waiting → held b q ≡ pokeIn v ch first waiting
+pub poke-coincides : (v : ℕ) (ch : List ℕ) (first waiting : ℕ) (a b : Poked) (p q : List ℕ) → pokeLeft a p ≡ pokeIn v ch first waiting → pokeLeft b q ≡ pokeIn v ch first waiting
     → (a ≡ b) × (p ≡ q)
-poke-coincides v ch first waiting a b p q e f = (ap (λ (h : Held). h .answer) (e ∙ sym f), ap (λ (h : Held). h .channel) (e ∙ sym f))
+poke-coincides v ch first waiting a b p q e f = (ap (λ (h : PokeLeft). h .answer) (e ∙ sym f), ap (λ (h : PokeLeft). h .channel) (e ∙ sym f))

@@ -7,41 +7,41 @@ use Prim.Native.Nat.{ℕ}
 use lib.Dec.{eqb}
 use lib.ListN.{length, length-replicate}
 use borrow.Author.Tests.{eqb-true, eqb-false}
-use Rattle.ops.specs.Op.{Op}
+use Rattle.basics.proofs.Clash.{clash}
+use Rattle.basics.proofs.Tests.{byCase, and-left}
+use Rattle.ops.specs.Syntax.{Op}
 use Rattle.ops.specs.Patch.{patchOf}
-use Rattle.ops.specs.Ops.{opAt}
-use Rattle.ops.specs.Ops.Patch.{ops, refused}
+use Rattle.ops.specs.Decode.{opAt}
+use Rattle.ops.specs.Decode.Patch.{ops, refused}
 use Rattle.file_laws.proofs.Meaning.{ops-are, refused-are}
-use Rattle.testing_device.proofs.Words.{byCase, and-left}
 use Rattle.machine_model.specs.State.{State}
 use Rattle.machine_model.specs.Run.{Answer}
-use Rattle.machine_model.proofs.Scans.{clash}
 use Rattle.patch_check.specs.Rules.{KeepsRules}
-use Rattle.check_laws.specs.Reached.{Reached}
-use Rattle.check_laws.specs.Reached.Reached.{at-first, run-on}
+use Rattle.demands.specs.Reached.{Reached}
+use Rattle.demands.specs.Reached.Reached.{at-first, run-on}
 use Rattle.patch_check.specs.File.{checkOf, KeepsFile}
 use Rattle.answers.specs.Check as checked
 use Rattle.answers.specs.declared.check.Verdict.{Verdict}
-use Rattle.check_laws.proofs.File.{check-passes}
-use Rattle.check_laws.proofs.Safe.{Spared, safe-resumed}
-use Rattle.machine_step.specs.Held.{Held}
+use Rattle.demands.proofs.File.{check-passes}
+use Rattle.demands.proofs.Safe.{Neither20Nor21, safe-resumed}
+use Rattle.machine_step.specs.Held.{Slices, Held}
 use Rattle.bridge.specs.View.{view}
-use Rattle.bridge.specs.Decoded.{codeOf, givenOf}
+use Rattle.bridge.specs.Decoded.{codeOf, givenOf, givenTo}
 use Rattle.bridge.specs.Fits.{Fits}
-use Rattle.bridge.specs.Run.{Ran, runIn}
+use Rattle.bridge.specs.Run.{Ran, runLaid}
 use Rattle.bridge.proofs.Decoded.{Bytes}
 use Rattle.bridge.proofs.Runs.{run-seen}
 use Rattle.answers.specs.Run.{numberOf}
 use Rattle.machine.specs.Fresh.{freshOf}
 use Rattle.states.specs.Formed.{hasRoom, isFormed}
-use Rattle.machine.specs.Calls.{Shown, lent, stepIn, steppedTo, runOver, ranTo, freshOn, freshOver}
+use Rattle.machine.specs.Calls.{Shown, lent, stepCall, steppedTo, runCall, ranTo, freshOn, freshCall}
 use Rattle.machine.specs.declared.machine.Stepped.{Stepped}
 use Rattle.machine.specs.declared.machine.Ran as code
 use Rattle.states.proofs.WellFormed.{formed-fits}
 use Rattle.demands.proofs.Started.{fresh-view, fresh-fits}
-use Rattle.machine.proofs.Once.{once-is}
-use Rattle.demands.specs.Reached.{ReachedBy}
-use Rattle.demands.specs.Reached.ReachedBy.{after-fresh, after-run, after-step, lent-anew}
+use Rattle.machine.proofs.StepIsARun.{once-is}
+use Rattle.demands.specs.ReachedBy.{ReachedBy}
+use Rattle.demands.specs.ReachedBy.ReachedBy.{after-fresh, after-run, after-step, lent-anew}
 use Rattle.demands.proofs.Kept.{run-fits, once-held, once-number}
 
 -- ---- a file that the check passes
@@ -70,16 +70,18 @@ unfolding isFormed
 roomy ks n c e = and-left _ _ (and-left _ _ (and-left _ _ (and-left _ _ (and-left _ _ e))))
 
 -- a number that is neither 20 nor 21
-other : (n : ℕ) → eqb n 20 ≡ false → eqb n 21 ≡ false → Spared n
+other : (n : ℕ) → eqb n 20 ≡ false → eqb n 21 ≡ false → Neither20Nor21 n
 other n e f = (eqb-false n 20 e, eqb-false n 21 f)
 
 -- a step leaves what a run of at most one step does, and has its number, or 0
 module _ (s input : List ℕ) (c : Held) where
-  step-held : stepIn s input c .held ≡ runOver s input 1 c .held
-  step-held = ap (λ (a : Shown). a .held) (sym (once-is s input c)) ∙ once-held (runOver s input 1 c)
+  step-held : stepCall s input c .held ≡ runCall s input 1 c .held
+  step-held = ap (λ (a : Shown). a .held) (sym (once-is s input c)) ∙ once-held (runCall s input 1 c)
 
-  step-spared : Spared (runOver s input 1 c .number) → Spared (stepIn s input c .number)
-  step-spared h = subst (λ (a : Shown). Spared (a .number)) (once-is s input c) (once-number (λ n. Spared n) (runOver s input 1 c) (other 0 refl refl) h)
+  step-number : Neither20Nor21 (numberOf (runCall s input 1 c .answer)) → Neither20Nor21 (numberOf (stepCall s input c .answer))
+  step-number h =
+      subst (λ (a : Shown). Neither20Nor21 (numberOf (a .answer))) (once-is s input c)
+      (once-number (λ n. Neither20Nor21 n) (runCall s input 1 c) (other 0 refl refl) h)
 
 module _ (s : List ℕ) (y : Bytes s) (p : Passed s) where
   -- the stacks are whole; where there is room, what is seen is a state that the model's runs of the patch come to
@@ -90,18 +92,18 @@ module _ (s : List ℕ) (y : Bytes s) (p : Passed s) where
 
   -- of a run's answer
   record Sound (r : Ran) : Type 0 where
-    spared : Spared (r .number)
+    number : Neither20Nor21 (numberOf (r .answer))
     known : Known (r .held)
 
   module _ (input : List ℕ) (b : ℕ) where
     -- the steps of a run, which are the model's
-    runs : (c : Held) → Fits s input c → Reached (patchIn s) (view c) → Sound (runIn (givenOf s input (length (c .output))) b c)
+    runs : (c : Held) → Fits s input c → Reached (patchIn s) (view c) → Sound (runLaid (givenTo s input c) b c)
     unfolding givenOf
     runs c h r =
         let e = run-seen s input y b c h in
         let k = run-fits s input y b c h .counted in
         record {
-          spared = subst (λ (n : ℕ). Spared n) (sym (ap (λ (a : Answer). a .number) e)) (safe-resumed (patchIn s) (p .rules) (view c) r input (length (c .output)) b);
+          number = subst (λ (n : ℕ). Neither20Nor21 n) (sym (ap (λ (a : Answer). a .number) e)) (safe-resumed (patchIn s) (p .rules) (view c) r input (length (c .output)) b);
           known = record {
             call-room = k .call-room;
             ref-room = k .ref-room;
@@ -110,56 +112,53 @@ module _ (s : List ℕ) (y : Bytes s) (p : Passed s) where
         }
 
     -- the fresh run, and a run: their steps, or 37
-    fresh-sound : (g t ts ch o : List ℕ) → Sound (freshOver s input b g t ts ch o)
-    unfolding freshOver freshOf
-    fresh-sound g t ts ch o =
-        byCase (hasRoom g ts ch)
+    fresh-sound : (l : Slices) → Sound (freshCall s input b l)
+    unfolding freshCall freshOf
+    fresh-sound l =
+        byCase (hasRoom (l .register) (l .table) (l .channel))
         (λ e. rw (p .good, e)
-        (runs (freshOn g t ts ch o) (fresh-fits g t ts ch o e s input y) (subst (λ (q : State). Reached (patchIn s) q) (sym (fresh-view g t ts ch o e)) (at-first (length t)))))
+        (runs (freshOn l) (fresh-fits l e s input y) (subst (λ (q : State). Reached (patchIn s) q) (sym (fresh-view l e)) (at-first (length (l .tape))))))
         (λ e. rw (p .good, e)
         (record {
-          spared = other 37 refl refl;
+          number = other 37 refl refl;
           known = record { call-room = length-replicate {A = ℕ} 256 0; ref-room = length-replicate {A = ℕ} 256 0; state = λ f. clash (cc) };
         }))
 
-    run-sound : (c : Held) → Known c → Sound (runOver s input b c)
-    unfolding runOver
+    run-sound : (c : Held) → Known c → Sound (runCall s input b c)
+    unfolding runCall
     run-sound c k =
-        byCase (isFormed (codeOf s .kinds) (length input) c)
-        (λ e. rw (p .good, e) (runs c (formed-fits s input c (k .call-room) (k .ref-room) e) (k .state (roomy (codeOf s .kinds) (length input) c e))))
-        (λ e. rw (p .good, e) (record { spared = other 37 refl refl; known = k }))
+        byCase (isFormed (codeOf s .rows) (length input) c)
+        (λ e. rw (p .good, e) (runs c (formed-fits s input c (k .call-room) (k .ref-room) e) (k .state (roomy (codeOf s .rows) (length input) c e))))
+        (λ e. rw (p .good, e) (record { number = other 37 refl refl; known = k }))
 
   -- what calls leave
   reached : (c : Held) → ReachedBy s c → Known c
-  reached c (after-fresh input b g t ts ch o) = fresh-sound input b g t ts ch o .known
+  reached c (after-fresh input b l) = fresh-sound input b l .known
   reached c (after-run d input b r) = run-sound input b d (reached d r) .known
   reached c (after-step d input r) = subst (λ (h : Held). Known h) (sym (step-held s input d)) (run-sound input 1 d (reached d r) .known)
-  reached c (lent-anew m g t ts ch o g′ t′ ts′ ch′ o′ r e q) =
-      let k = reached (lent m g t ts ch o) r in
+  reached c (lent-anew m l n r e q) =
+      let k = reached (lent m l) r in
       record { call-room = k .call-room; ref-room = k .ref-room; state = λ f. subst (λ (u : State). Reached (patchIn s) u) (sym q) (k .state e) }
 
 -- ---- demand 3
 
--- for every byte string s that `check` answers with number 0, whatever register, tape, table, channel and output a fresh run of it is lent,
--- and whatever input and budget it is given, its number is neither 20 nor 21: v and r meet the contracts of `check` and `run_fresh`
+-- for every byte string s that `check` answers with number 0, whatever slices a fresh run of it is lent, and whatever input and budget it is
+-- given, its number is neither 20 nor 21: v and r meet the contracts of `check` and `run_fresh`
 pub demand3 : (s : List ℕ) → Bytes s → (v : Verdict) → v ≡ checkOf s → checked.numberOf v ≡ 0
-    → (input : List ℕ) (budget : ℕ) (g t ts ch o : List ℕ) (r : code.Ran) (g′ t′ ts′ ch′ o′ : List ℕ)
-    → ranTo r g′ t′ ts′ ch′ o′ ≡ freshOver s input budget g t ts ch o → Spared (numberOf (r .answer))
-demand3 s y v e z input b g t ts ch o r g′ t′ ts′ ch′ o′ q =
-    subst (λ (n : ℕ). Spared n) (sym (ap (λ (a : Ran). a .number) q)) (fresh-sound s y (passed s (check-passes s v e .0 z)) input b g t ts ch o .spared)
+    → (input : List ℕ) (budget : ℕ) (l : Slices) (r : code.Ran) (n : Slices) → ranTo r n ≡ freshCall s input budget l → Neither20Nor21 (numberOf (r .answer))
+demand3 s y v e z input b l r n q =
+    subst (λ (a : Ran). Neither20Nor21 (numberOf (a .answer))) (sym q) (fresh-sound s y (passed s (check-passes s v e .0 z)) input b l .number)
 
 -- nor is that of a run that takes up what calls on the file left: r meets the contract of `run`
 pub demand3-resumed : (s : List ℕ) → Bytes s → (v : Verdict) → v ≡ checkOf s → checked.numberOf v ≡ 0
-    → (c : Held) → ReachedBy s c → (input : List ℕ) (budget : ℕ) (r : code.Ran) (g t ts ch o : List ℕ)
-    → ranTo r g t ts ch o ≡ runOver s input budget c → Spared (numberOf (r .answer))
-demand3-resumed s y v e z c h input b r g t ts ch o q =
+    → (c : Held) → ReachedBy s c → (input : List ℕ) (budget : ℕ) (r : code.Ran) (n : Slices) → ranTo r n ≡ runCall s input budget c → Neither20Nor21 (numberOf (r .answer))
+demand3-resumed s y v e z c h input b r n q =
     let p = passed s (check-passes s v e .0 z) in
-    subst (λ (n : ℕ). Spared n) (sym (ap (λ (a : Ran). a .number) q)) (run-sound s y p input b c (reached s y p c h) .spared)
+    subst (λ (a : Ran). Neither20Nor21 (numberOf (a .answer))) (sym q) (run-sound s y p input b c (reached s y p c h) .number)
 
 -- nor is that of a step: r meets the contract of `step`
 pub demand3-step : (s : List ℕ) → Bytes s → (v : Verdict) → v ≡ checkOf s → checked.numberOf v ≡ 0
-    → (c : Held) → ReachedBy s c → (input : List ℕ) (r : Stepped) (g t ts ch o : List ℕ)
-    → steppedTo r g t ts ch o ≡ stepIn s input c → Spared (numberOf (r .answer))
-demand3-step s y v e z c h input r g t ts ch o q =
+    → (c : Held) → ReachedBy s c → (input : List ℕ) (r : Stepped) (n : Slices) → steppedTo r n ≡ stepCall s input c → Neither20Nor21 (numberOf (r .answer))
+demand3-step s y v e z c h input r n q =
     let p = passed s (check-passes s v e .0 z) in
-    subst (λ (n : ℕ). Spared n) (sym (ap (λ (a : Shown). a .number) q)) (step-spared s input c (run-sound s y p input 1 c (reached s y p c h) .spared))
+    subst (λ (a : Shown). Neither20Nor21 (numberOf (a .answer))) (sym q) (step-number s input c (run-sound s y p input 1 c (reached s y p c h) .number))

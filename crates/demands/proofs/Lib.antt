@@ -1,6 +1,13 @@
--- The theorems on the exported operations, after the laws behind them.
+-- What the exported operations promise together: the check's answer and demand 3 on the model, the calls, demand 3 on the code, and the customer's cases.
+pub mod Scanned
+pub mod Partner
+pub mod Checked
+pub mod File
+pub mod Safe
+pub mod CheckCases
 pub mod Started
 pub mod Calls
 pub mod Kept
 pub mod Demand3
 pub mod Coincide
+pub mod OneTable

@@ -8,7 +8,7 @@ use lib.ListN.{length, replicate, length-replicate}
 use Rattle.byte_fields.specs.Storage.{fill}
 use Rattle.testing_device.specs.Device.{fillRing}
 use Rattle.machine_model.specs.State.{fresh}
-use Rattle.machine_step.specs.Held.{Held}
+use Rattle.machine_step.specs.Held.{Slices, Held}
 use Rattle.bridge.specs.View.{view, lay}
 use Rattle.bridge.specs.Fits.{Fits}
 use Rattle.bridge.proofs.Decoded.{Bytes}
@@ -26,19 +26,19 @@ unfolding zeroed fill
 all-zero [] = refl
 all-zero (x ∷ xs) = ap (λ (l : List ℕ). 0 ∷ l) (all-zero xs)
 
-module _ (g t ts ch o : List ℕ) where
-  fresh-laid : freshOn g t ts ch o ≡ lay (fresh (length t)) (lent freshOf g t ts ch o)
+module _ (l : Slices) where
+  fresh-laid : freshOn l ≡ lay (fresh (length (l .tape))) (lent freshOf l)
   unfolding lay fresh zeroed fill fillRing freshOf
-  fresh-laid = rw (all-zero t, length-replicate {A = ℕ} 1024 0) refl
+  fresh-laid = rw (all-zero (l .tape), length-replicate {A = ℕ} 1024 0) refl
 
-  module _ (e : hasRoom g ts ch ≡ true) where
-    pub fresh-view : view (freshOn g t ts ch o) ≡ fresh (length t)
+  module _ (e : hasRoom (l .register) (l .table) (l .channel) ≡ true) where
+    pub fresh-view : view (freshOn l) ≡ fresh (length (l .tape))
     unfolding fresh
-    fresh-view = ap view fresh-laid ∙ view-lay (fresh (length t)) (lent freshOf g t ts ch o) (omega arith) (room g ts ch e .ringed)
+    fresh-view = ap view fresh-laid ∙ view-lay (fresh (length (l .tape))) (lent freshOf l) (omega arith) (room _ _ _ e .ringed)
 
-    pub fresh-fits : (s input : List ℕ) → Bytes s → Fits s input (freshOn g t ts ch o)
+    pub fresh-fits : (s input : List ℕ) → Bytes s → Fits s input (freshOn l)
     unfolding freshOf
     fresh-fits s input b =
-        let r = room g ts ch e in
+        let r = room (l .register) (l .table) (l .channel) e in
         let n = length-replicate {A = ℕ} 256 0 in
-        subst (λ (d : Held). Fits s input d) (sym fresh-laid) (runs.fresh-fits s input (length t) (lent freshOf g t ts ch o) (r .wide) (r .tabled) (r .ringed) n n)
+        subst (λ (d : Held). Fits s input d) (sym fresh-laid) (runs.fresh-fits s input (length (l .tape)) (lent freshOf l) (r .wide) (r .tabled) (r .ringed) n n)

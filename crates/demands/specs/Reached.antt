@@ -1,19 +1,14 @@
--- What a machine and its slices hold after public calls on a patch. Assumes nothing.
-use mathlib.Core.Path.{_≡_}
-use mathlib.Core.Bool.{true}
-use mathlib.Core.List.{List}
+-- The states that runs of a patch come to. Assumes nothing.
 use Prim.Native.Nat.{ℕ}
-use Rattle.machine_step.specs.Held.{Held}
-use Rattle.bridge.specs.View.{view}
-use Rattle.states.specs.Formed.{hasRoom}
-use Rattle.machine.specs.Calls.{lent, stepIn, runOver, freshOver}
-use Rattle.machine.specs.declared.machine.Machine.{Machine}
+use mathlib.Core.List.{List}
+use Rattle.ops.specs.Syntax.{Op}
+use Rattle.machine_model.specs.State.{State, Given, fresh}
+use Rattle.machine_model.specs.Run.{run}
 
--- what a fresh run of the file s leaves, and what a run or a step leaves of what was reached before it, with any input; and the same machine
--- among other slices, as more room for outputs, in which the same is seen
-pub data ReachedBy (s : List ℕ) : Held → Type 0 where
-  after-fresh : (input : List ℕ) (budget : ℕ) (g t ts ch o : List ℕ) → ReachedBy s (freshOver s input budget g t ts ch o .held)
-  after-run : (c : Held) (input : List ℕ) (budget : ℕ) → ReachedBy s c → ReachedBy s (runOver s input budget c .held)
-  after-step : (c : Held) (input : List ℕ) → ReachedBy s c → ReachedBy s (stepIn s input c .held)
-  lent-anew : (m : Machine) (g t ts ch o g′ t′ ts′ ch′ o′ : List ℕ) → ReachedBy s (lent m g t ts ch o) → hasRoom g ts ch ≡ true
-      → view (lent m g′ t′ ts′ ch′ o′) ≡ view (lent m g t ts ch o) → ReachedBy s (lent m g′ t′ ts′ ch′ o′)
+abbrev pub given : List Op → List ℕ → ℕ → Given
+given os input room = record { ops = os; input = input; room = room }
+
+-- the fresh state, and what a run leaves, from a state that was reached: a budget spent and taken up again, with any input and any room
+pub data Reached (os : List Op) : State → Type 0 where
+  at-first : (cells : ℕ) → Reached os (fresh cells)
+  run-on : (s : State) (input : List ℕ) (room budget : ℕ) → Reached os s → Reached os (run (given os input room) budget s .state)

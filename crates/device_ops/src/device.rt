@@ -1,20 +1,23 @@
 // Get, Put, Peek and Poke.
 ghost use mathlib.Core.Path.{_≡_};
-ghost use Prim.Native.Nat.{ℕ, _+_, _≤_, _<_};
+ghost use Prim.Native.Nat.{_+_, _≤_, _<_};
 ghost use lib.ListN.{length};
-ghost use Rattle.hops.specs.Place.{laned, told};
+ghost use Rattle.basics.specs.Limits.{mostOps, lanes};
+ghost use Rattle.machine_numbers.specs.Numbers.{oneList, told};
 ghost use Rattle.device_ops.specs.Device.{gettingOf, puttingOf, peekingOf, pokingOf, deviceOf};
-use hops::place::Hop;
-use hops::place::Place;
+ghost use Rattle.kind_table.specs.Rows as row;
+use kind_table::row;
+use machine_numbers::numbers::Numbers;
+use machine_numbers::numbers::OpAnswer;
 use ops::op::Mode;
 use testing_device::device::Got;
 use testing_device::device::Peeked;
 use testing_device::device::Poked;
 use testing_device::device::Put;
 
-fn get(mut h: Place, mode: Mode, register: &mut [u64], input: &[u64]) -> Hop
-    requires { ⌜ (h .position < 4096) × (1024 ≤ length (now register)) ⌝ }
-    ensures { λ r. ⌜ laned r (now (register .exit)) ≡ gettingOf mode h (now (register .entry)) (now (input .entry)) ⌝ }
+fn get(mut h: Numbers, mode: Mode, register: &mut [u64], input: &[u64]) -> OpAnswer
+    requires { ⌜ (h .position < mostOps) × (lanes ≤ length (now register)) ⌝ }
+    ensures { λ r. ⌜ oneList r (now (register .exit)) ≡ gettingOf mode h (now (register .entry)) (now (input .entry)) ⌝ }
 {
     let t = h.taken;
     match testing_device::input::get(mode, input, t) {
@@ -27,9 +30,9 @@ fn get(mut h: Place, mode: Mode, register: &mut [u64], input: &[u64]) -> Hop
     }
 }
 
-fn put(mut h: Place, mode: Mode, register: &[u64], output: &mut [u64]) -> Hop
-    requires { ⌜ (h .position < 4096) × (1024 ≤ length (now register)) ⌝ }
-    ensures { λ r. ⌜ laned r (now (output .exit)) ≡ puttingOf mode h (now (register .entry)) (now (output .entry)) ⌝ }
+fn put(mut h: Numbers, mode: Mode, register: &[u64], output: &mut [u64]) -> OpAnswer
+    requires { ⌜ (h .position < mostOps) × (lanes ≤ length (now register)) ⌝ }
+    ensures { λ r. ⌜ oneList r (now (output .exit)) ≡ puttingOf mode h (now (register .entry)) (now (output .entry)) ⌝ }
 {
     let w = h.written;
     let v = register[0];
@@ -42,9 +45,9 @@ fn put(mut h: Place, mode: Mode, register: &[u64], output: &mut [u64]) -> Hop
     }
 }
 
-fn peek(mut h: Place, register: &mut [u64], channel: &[u64]) -> Hop
-    requires { ⌜ (h .position < 4096) × (1024 ≤ length (now register)) ⌝ }
-    ensures { λ r. ⌜ laned r (now (register .exit)) ≡ peekingOf h (now (register .entry)) (now (channel .entry)) ⌝ }
+fn peek(mut h: Numbers, register: &mut [u64], channel: &[u64]) -> OpAnswer
+    requires { ⌜ (h .position < mostOps) × (lanes ≤ length (now register)) ⌝ }
+    ensures { λ r. ⌜ oneList r (now (register .exit)) ≡ peekingOf h (now (register .entry)) (now (channel .entry)) ⌝ }
 {
     let f = h.first;
     let w = h.waiting;
@@ -60,9 +63,9 @@ fn peek(mut h: Place, register: &mut [u64], channel: &[u64]) -> Hop
     }
 }
 
-fn poke(mut h: Place, register: &[u64], channel: &mut [u64]) -> Hop
-    requires { ⌜ (h .position < 4096) × (1024 ≤ length (now register)) ⌝ }
-    ensures { λ r. ⌜ laned r (now (channel .exit)) ≡ pokingOf h (now (register .entry)) (now (channel .entry)) ⌝ }
+fn poke(mut h: Numbers, register: &[u64], channel: &mut [u64]) -> OpAnswer
+    requires { ⌜ (h .position < mostOps) × (lanes ≤ length (now register)) ⌝ }
+    ensures { λ r. ⌜ oneList r (now (channel .exit)) ≡ pokingOf h (now (register .entry)) (now (channel .entry)) ⌝ }
 {
     let f = h.first;
     let w = h.waiting;
@@ -79,28 +82,28 @@ fn poke(mut h: Place, register: &[u64], channel: &mut [u64]) -> Hop
 
 // The op of row k, with its payload at byte a.
 pub fn device(
-    h: Place,
+    h: Numbers,
     k: u8,
     a: usize,
     register: &mut [u64],
     channel: &mut [u64],
-    output: &mut [u64],
     input: &[u64],
+    output: &mut [u64],
     bytes: &[u8],
-) -> Hop
-    requires { ⌜ (h .position < 4096) × (1024 ≤ length (now register)) × (k ≡ 38 → a + 2 ≤ length (now bytes)) × (k ≡ 39 → a + 2 ≤ length (now bytes)) ⌝ }
-    ensures { λ r. ⌜ told r (now (register .exit)) (now (channel .exit)) (now (output .exit)) ≡ deviceOf k a h (now (register .entry)) (now (channel .entry)) (now (output .entry)) (now (input .entry)) (now (bytes .entry)) ⌝ }
+) -> OpAnswer
+    requires { ⌜ (h .position < mostOps) × (lanes ≤ length (now register)) × (k ≡ row.get → a + 2 ≤ length (now bytes)) × (k ≡ row.put → a + 2 ≤ length (now bytes)) ⌝ }
+    ensures { λ r. ⌜ told r (now (register .exit)) (now (channel .exit)) (now (output .exit)) ≡ deviceOf k a h (now (register .entry)) (now (channel .entry)) (now (input .entry)) (now (output .entry)) (now (bytes .entry)) ⌝ }
 {
     match k {
-        38 => {
+        row::GET => {
             let mode = ops::op::mode_at(bytes, a);
             get(h, mode, register, input)
         }
-        39 => {
+        row::PUT => {
             let mode = ops::op::mode_at(bytes, a);
             put(h, mode, register, output)
         }
-        59 => peek(h, register, channel),
+        row::PEEK => peek(h, register, channel),
         _ => poke(h, register, channel),
     }
 }

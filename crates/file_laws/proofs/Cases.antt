@@ -10,14 +10,14 @@ use Rattle.byte_fields.specs.Bytes.{valuesAt, textAt}
 use Rattle.kind_table.specs.Kinds.{kindAt, indexOf}
 use Rattle.ops.specs.Refusals.{numberOf}
 use Rattle.ops.specs.Record.{lengthOk, countOf, modeOf, bodyAt, recordAt}
-use Rattle.ops.specs.Op.Control.{function, end}
-use Rattle.ops.specs.Op.Plain.{comment, move, offset, put, get}
-use Rattle.ops.specs.Op.Sort.{ints, floats}
-use Rattle.ops.specs.Op.Op.{control, set, load, plain}
+use Rattle.ops.specs.Syntax.Control.{function, end}
+use Rattle.ops.specs.Syntax.Plain.{comment, move, offset, put, get}
+use Rattle.ops.specs.Syntax.Sort.{ints, floats}
+use Rattle.ops.specs.Syntax.Op.{control, set, load, plain}
 use Rattle.ops.specs.Patch.{Loaded, walk, patchOf, markOf}
 use Rattle.patch_reader.specs.Answer.{readOf, refusedAt}
-use Rattle.ops.specs.Ops.{rows, rowAt, opAt, opsOf}
-use Rattle.ops.specs.Ops.Patch.{ops, refused}
+use Rattle.ops.specs.Decode.{rows, rowAt, opAt, opsOf}
+use Rattle.ops.specs.Decode.Patch.{ops, refused}
 use Rattle.ops.specs.Write.{encodeAll}
 use Rattle.patch_reader.specs.declared.reader.Read.{Read}
 use Rattle.file_laws.proofs.Crowded.{ends, functions}

@@ -11,12 +11,12 @@ use lib.Dec.{ltb, eqb}
 use lib.ListN.{length, drop, replicate, length-replicate, length-append, length-drop}
 use Rattle.kind_table.specs.Kinds.{indexOf}
 use Rattle.ops.specs.Refusals.{numberOf}
-use Rattle.ops.specs.Op.{Op, kindOf}
-use Rattle.ops.specs.Op.Control.{function, end}
-use Rattle.ops.specs.Op.Op.{control}
+use Rattle.ops.specs.Syntax.{Op, kindOf}
+use Rattle.ops.specs.Syntax.Control.{function, end}
+use Rattle.ops.specs.Syntax.Op.{control}
 use Rattle.ops.specs.Patch.{stop, walk, patchOf, markOf}
 use Rattle.patch_reader.specs.Answer.{readOf, refusedAt}
-use Rattle.ops.specs.Ops.{opCount}
+use Rattle.ops.specs.Decode.{opCount}
 use Rattle.ops.specs.Write.{payloadOf, encode, encodeAll, Fits, Each, markIn, marksIn}
 use Rattle.ops.specs.declared.refusals.Refusal.{Refusal}
 use Rattle.ops.specs.declared.refusals.Refusal.the-variants.{TooManyOps, TooManyMarks}

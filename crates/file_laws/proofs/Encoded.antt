@@ -16,13 +16,13 @@ use Rattle.ops.specs.declared.op.Mode.the-variants.{Char, Int, Other}
 use Rattle.byte_fields.specs.Bytes.{u16At, u32At, u64At, le16, le32, le64}
 use Rattle.kind_table.specs.Kinds.{shape, kindAt, indexOf}
 use Rattle.ops.specs.Record.{lengthOk, countOf, modeOf}
-use Rattle.ops.specs.Op.{Control, Plain, Op, kindOf}
-use Rattle.ops.specs.Op.Control.{function, call, ret, while, if, else, end}
-use Rattle.ops.specs.Op.Plain.{comment, store, move, swap, locate, offset, deref, refer, cell, lane, get, put, peek, poke, alloc, free}
-use Rattle.ops.specs.Op.Sort.{ints, floats}
-use Rattle.ops.specs.Op.Op.{control, set, load, plain}
+use Rattle.ops.specs.Syntax.{Control, Plain, Op, kindOf}
+use Rattle.ops.specs.Syntax.Control.{function, call, ret, while, if, else, end}
+use Rattle.ops.specs.Syntax.Plain.{comment, store, move, swap, locate, offset, deref, refer, cell, lane, get, put, peek, poke, alloc, free}
+use Rattle.ops.specs.Syntax.Sort.{ints, floats}
+use Rattle.ops.specs.Syntax.Op.{control, set, load, plain}
 use Rattle.ops.specs.Patch.{markOf}
-use Rattle.ops.specs.Ops.{rows, rowAt, modeIn, opWith, opCount}
+use Rattle.ops.specs.Decode.{rows, rowAt, modeIn, opWith, opCount}
 use Rattle.ops.specs.Write.{modeNumber, valueBytes, payloadOf, PlainFits, Fits, markIn}
 use Rattle.file_laws.proofs.Rows.{rule}
 use Rattle.file_laws.proofs.Digits.{after-two, at16, at32, at64, length-le64, at-values, at-text}

@@ -7,16 +7,17 @@ use mathlib.Core.List.{List, [], _∷_, _++_, map}
 use lib.Dec.{eqb, ltb}
 use lib.ListN.{length, getD, take, drop, length-map}
 use borrow.Author.Tests.{leb-true, eqb-true, ltb-false}
+use Rattle.basics.proofs.Clash.{clash}
 use Rattle.byte_fields.specs.Bytes.{u16At, u32At, u64At, valuesAt, textAt}
 use Rattle.kind_table.specs.Kinds.{shape}
 use Rattle.ops.specs.Record.{lengthOk, countOf}
 use Rattle.ops.specs.Refusals.{numberOf}
 use Rattle.ops.specs.Patch.{Item, Loaded, stop, walk, patchOf, markOf}
-use Rattle.ops.specs.Ops.{rowAt, opWith, opAt, opsOf}
-use Rattle.ops.specs.Ops.Patch.{ops, refused}
-use Rattle.ops.specs.Op.{Op, Plain}
-use Rattle.ops.specs.Op.Plain.{comment, store, move, swap, locate, offset, deref, refer, cell, lane, get, put, peek, poke, alloc, free}
-use Rattle.ops.specs.Op.Op.{control, set, load, plain}
+use Rattle.ops.specs.Decode.{rowAt, opWith, opAt, opsOf}
+use Rattle.ops.specs.Decode.Patch.{ops, refused}
+use Rattle.ops.specs.Syntax.{Op, Plain}
+use Rattle.ops.specs.Syntax.Plain.{comment, store, move, swap, locate, offset, deref, refer, cell, lane, get, put, peek, poke, alloc, free}
+use Rattle.ops.specs.Syntax.Op.{control, set, load, plain}
 use Rattle.ops.specs.Write.{encodeAll, Below, Fits, Each, markIn, marksIn, AllFit}
 use Rattle.ops.specs.declared.refusals.Refusal.the-variants.{FileTooLong}
 use Rattle.file_laws.proofs.Encoded.{known}
@@ -28,7 +29,6 @@ use Rattle.file_laws.proofs.Rows.{rule, row-rule}
 use Rattle.byte_fields.proofs.TextAt.{length-text}
 use Rattle.byte_fields.proofs.ValuesAt.{length-values}
 use Rattle.patch_reader.proofs.Whole.{tells}
-use Rattle.ops.proofs.Clash.{clash}
 
 pub below-all : (s : List ℕ) → ((i : ℕ) → getD s i 0 < 256) → Below 256 s
 below-all [] h = tt
@@ -102,16 +102,16 @@ module _ (s : List ℕ) (w : Below 256 s) where
   pub item-fits : (i : Item) → IsItem s i → Fits (opAt s i)
   unfolding opAt
   item-fits i h =
-      let t = tells s (h .first) (i .kind) (i .place) (h .len) (i .count) (h .next) (h .is) in
-      let r = row-rule (i .kind) (t .small) (t .kept) in
-      op-fits (i .place) (h .len) (i .count) (omega (arith, t .size, t .within)) (t .few) (rowAt (i .kind)) (rw (r .shaped) at (t .fits)) (rw (r .shaped) at (t .counts))
+      let t = tells s (h .first) (i .row) (i .payload) (h .len) (i .count) (h .next) (h .is) in
+      let r = row-rule (i .row) (t .small) (t .kept) in
+      op-fits (i .payload) (h .len) (i .count) (omega (arith, t .size, t .within)) (t .few) (rowAt (i .row)) (rw (r .shaped) at (t .fits)) (rw (r .shaped) at (t .counts))
 
   items-fit : (is : List Item) → Every (IsItem s) is → Each Fits (map (opAt s) is)
   items-fit [] e = tt
   items-fit (i ∷ is) e = (item-fits i (e .0), items-fit is (e .1))
 
 module _ (s : List ℕ) where
-  item-mark : (i : Item) → IsItem s i → markIn (opAt s i) ≡ markOf (i .kind)
+  item-mark : (i : Item) → IsItem s i → markIn (opAt s i) ≡ markOf (i .row)
   item-mark i h = sym (known (opAt s i) .3) ∙ ap markOf (means s i h .row)
 
   items-marks : (is : List Item) → Every (IsItem s) is → marksIn (map (opAt s) is) ≡ items.marksIn is

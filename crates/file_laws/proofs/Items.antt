@@ -19,7 +19,7 @@ pub record IsItem (s : List ℕ) (i : Item) : Type 0 where
   pub first : ℕ
   pub len : ℕ
   pub next : ℕ
-  pub is : recordAt s first ≡ Whole (i .kind) (i .place) len (i .count) next
+  pub is : recordAt s first ≡ Whole (i .row) (i .payload) len (i .count) next
 
 -- ---- each item
 
@@ -84,7 +84,7 @@ few-items s = few-cond (ltb 65536 (length s)) 4096 _ _ (omega arith) (few-walk s
 
 abbrev pub marksIn : List Item → ℕ
 marksIn [] = 0
-marksIn (i ∷ is) = markOf (i .kind) + marksIn is
+marksIn (i ∷ is) = markOf (i .row) + marksIn is
 
 marks-cond : (t : Bool) (m : ℕ) (x y : Loaded) → m + marksIn (x .items) ≤ 256 → m + marksIn (y .items) ≤ 256 → m + marksIn (cond t x y .items) ≤ 256
 marks-cond true m x y hx hy = hx

@@ -1,7 +1,6 @@
 pub mod Payload
 pub mod Items
 pub mod Loaded
-pub mod Tested
 pub mod Rows
 pub mod Meaning
 pub mod Unique

@@ -9,13 +9,13 @@ use lib.Dec.{eqb}
 use lib.ListN.{length}
 use Rattle.kind_table.specs.Kinds.{shape, need, indexOf, runNeed}
 use Rattle.ops.specs.Record.{countOf}
-use Rattle.ops.specs.Op.{Control, Plain, Op, kindOf, plainKind, needs, needsOf, plainNeeds}
-use Rattle.ops.specs.Op.Control.{function, call, ret, while, if, else, end}
-use Rattle.ops.specs.Op.Plain.{comment, store, move, swap, locate, offset, deref, refer, cell, lane, get, put, peek, poke, alloc, free}
-use Rattle.ops.specs.Op.Op.{control, set, load, plain}
-use Rattle.ops.specs.Patch.{Item, kindIn, countIn, needIn, patchOf}
-use Rattle.ops.specs.Ops.{rowAt, plainWith, opWith, opAt, plainCount, opCount, opsOf}
-use Rattle.ops.specs.Ops.Patch.{ops, refused}
+use Rattle.ops.specs.Syntax.{Control, Plain, Op, kindOf, plainKind, needs, needsOf, plainNeeds}
+use Rattle.ops.specs.Syntax.Control.{function, call, ret, while, if, else, end}
+use Rattle.ops.specs.Syntax.Plain.{comment, store, move, swap, locate, offset, deref, refer, cell, lane, get, put, peek, poke, alloc, free}
+use Rattle.ops.specs.Syntax.Op.{control, set, load, plain}
+use Rattle.ops.specs.Patch.{Item, rowIn, countIn, needIn, patchOf}
+use Rattle.ops.specs.Decode.{rowAt, plainWith, opWith, opAt, plainCount, opCount, opsOf}
+use Rattle.ops.specs.Decode.Patch.{ops, refused}
 use Rattle.byte_fields.proofs.ValuesAt.{length-values}
 use Rattle.byte_fields.proofs.TextAt.{length-text}
 use Rattle.patch_reader.proofs.Whole.{Tells, tells}
@@ -129,35 +129,35 @@ module _ (s : List ℕ) (p l n : ℕ) (h : p + l ≤ length s) where
 
 -- the op that an item means has the item's row, count and need
 pub record Means (s : List ℕ) (i : Item) : Type 0 where
-  pub row : indexOf (kindOf (opAt s i)) ≡ i .kind
+  pub row : indexOf (kindOf (opAt s i)) ≡ i .row
   pub count : opCount (opAt s i) ≡ i .count
   pub needed : needs (opAt s i) ≡ needIn i
 
 module _ (s : List ℕ) (i : Item) (h : IsItem s i) where
-  told : Tells s (h .first) (i .kind) (i .place) (h .len) (i .count) (h .next)
-  told = tells s (h .first) (i .kind) (i .place) (h .len) (i .count) (h .next) (h .is)
+  told : Tells s (h .first) (i .row) (i .payload) (h .len) (i .count) (h .next)
+  told = tells s (h .first) (i .row) (i .payload) (h .len) (i .count) (h .next) (h .is)
 
-  its-row : Row (i .kind)
-  its-row = row-rule (i .kind) (told .small) (told .kept)
+  its-row : Row (i .row)
+  its-row = row-rule (i .row) (told .small) (told .kept)
 
   its-count : opCount (opAt s i) ≡ i .count
   unfolding opAt
   its-count =
-      let w : i .place + h .len ≤ length s = omega (arith, told .size, told .within) in
-      count-with s (i .place) (h .len) (i .count) w (rowAt (i .kind))
-      (told .counts ∙ ap (λ (c : ℕ). countOf s c (i .place) (h .len)) (its-row .shaped))
+      let w : i .payload + h .len ≤ length s = omega (arith, told .size, told .within) in
+      count-with s (i .payload) (h .len) (i .count) w (rowAt (i .row))
+      (told .counts ∙ ap (λ (c : ℕ). countOf s c (i .payload) (h .len)) (its-row .shaped))
 
   its-need : needs (opAt s i) ≡ needIn i
   unfolding opAt runNeed
   its-need =
-      need-with s (i .place) (i .count) (rowAt (i .kind))
-      ∙ ap (asked (need (rule (rowAt (i .kind))))) its-count
+      need-with s (i .payload) (i .count) (rowAt (i .row))
+      ∙ ap (asked (need (rule (rowAt (i .row))))) its-count
       ∙ ap (λ (c : ℕ). asked c (i .count)) (sym (its-row .needed))
 
   pub means : Means s i
   unfolding opAt
   means = record {
-    row = ap indexOf (kind-with s (i .place) (i .count) (rowAt (i .kind))) ∙ its-row .number;
+    row = ap indexOf (kind-with s (i .payload) (i .count) (rowAt (i .row))) ∙ its-row .number;
     count = its-count;
     needed = its-need;
   }
@@ -170,7 +170,7 @@ module _ (P : Item → Type 0) (f g : Item → ℕ) (h : (i : Item) → P i → 
   same (x ∷ xs) e = ap (λ (a : ℕ). a ∷ map f xs) (h x (e .0)) ∙ ap (λ (l : List ℕ). g x ∷ l) (same xs (e .1))
 
 module _ (s : List ℕ) where
-  pub rows-are : map (λ (i : Item). indexOf (kindOf (opAt s i))) (patchOf s .items) ≡ map kindIn (patchOf s .items)
+  pub rows-are : map (λ (i : Item). indexOf (kindOf (opAt s i))) (patchOf s .items) ≡ map rowIn (patchOf s .items)
   rows-are = same (IsItem s) _ _ (λ (i : Item) (h : IsItem s i). means s i h .row) (patchOf s .items) (items-are s)
 
   pub counts-are : map (λ (i : Item). opCount (opAt s i)) (patchOf s .items) ≡ map countIn (patchOf s .items)

@@ -5,11 +5,11 @@ use mathlib.Core.List.{List}
 use Prim.Native.Nat.{ℕ}
 use Rattle.ops.specs.declared.op.Mode.{Mode}
 use Rattle.byte_fields.specs.Bytes.{u16At, u64At, valuesAt, textAt}
-use Rattle.ops.specs.Op.{Plain, Sort, Op}
-use Rattle.ops.specs.Op.Plain.{comment, store, move, swap, locate, offset, deref, refer, cell, lane, get, put, peek, poke, alloc, free}
-use Rattle.ops.specs.Op.Op.{control, set, load, plain}
+use Rattle.ops.specs.Syntax.{Plain, Sort, Op}
+use Rattle.ops.specs.Syntax.Plain.{comment, store, move, swap, locate, offset, deref, refer, cell, lane, get, put, peek, poke, alloc, free}
+use Rattle.ops.specs.Syntax.Op.{control, set, load, plain}
 use Rattle.ops.specs.Patch.{Item}
-use Rattle.ops.specs.Ops.{modeIn, plainWith, opWith, rowAt, opAt}
+use Rattle.ops.specs.Decode.{modeIn, plainWith, opWith, rowAt, opAt}
 
 -- a payload read twice is the payload
 module _ (s : List ℕ) (p n : ℕ) where
@@ -39,28 +39,28 @@ module _ (s : List ℕ) (p n : ℕ) where
 
 module _ (s : List ℕ) (i : Item) where
   -- an op of the file has the payload that stands at its place
-  pub held : (o : Op) → opAt s i ≡ o → opWith s (i .place) (i .count) o ≡ o
+  pub held : (o : Op) → opAt s i ≡ o → opWith s (i .payload) (i .count) o ≡ o
   unfolding opAt
-  held o e = ap (opWith s (i .place) (i .count)) (sym e) ∙ op-again s (i .place) (i .count) (rowAt (i .kind)) ∙ e
+  held o e = ap (opWith s (i .payload) (i .count)) (sym e) ∙ op-again s (i .payload) (i .count) (rowAt (i .row)) ∙ e
 
   -- what `read_values` reads
-  pub set-values : (k : Sort) (vs : List ℕ) → opAt s i ≡ set k vs → vs ≡ valuesAt s (i .place) (i .count)
+  pub set-values : (k : Sort) (vs : List ℕ) → opAt s i ≡ set k vs → vs ≡ valuesAt s (i .payload) (i .count)
   set-values k vs e = cc (held (set k vs) e)
 
   -- what `u64_at` reads
-  pub move-argument : (v : ℕ) → opAt s i ≡ plain (move v) → v ≡ u64At s (i .place)
+  pub move-argument : (v : ℕ) → opAt s i ≡ plain (move v) → v ≡ u64At s (i .payload)
   move-argument v e = cc (held (plain (move v)) e)
 
-  pub offset-argument : (v n : ℕ) → opAt s i ≡ plain (offset v n) → v ≡ u64At s (i .place)
+  pub offset-argument : (v n : ℕ) → opAt s i ≡ plain (offset v n) → v ≡ u64At s (i .payload)
   offset-argument v n e = cc (held (plain (offset v n)) e)
 
   -- the part of the file that is a comment's text
-  pub comment-text : (bs : List ℕ) → opAt s i ≡ plain (comment bs) → bs ≡ textAt s (i .place) (i .count)
+  pub comment-text : (bs : List ℕ) → opAt s i ≡ plain (comment bs) → bs ≡ textAt s (i .payload) (i .count)
   comment-text bs e = cc (held (plain (comment bs)) e)
 
   -- what `mode_at` reads
-  pub get-mode : (m : Mode) → opAt s i ≡ plain (get m) → m ≡ modeIn (u16At s (i .place))
+  pub get-mode : (m : Mode) → opAt s i ≡ plain (get m) → m ≡ modeIn (u16At s (i .payload))
   get-mode m e = cc (held (plain (get m)) e)
 
-  pub put-mode : (m : Mode) → opAt s i ≡ plain (put m) → m ≡ modeIn (u16At s (i .place))
+  pub put-mode : (m : Mode) → opAt s i ≡ plain (put m) → m ≡ modeIn (u16At s (i .payload))
   put-mode m e = cc (held (plain (put m)) e)

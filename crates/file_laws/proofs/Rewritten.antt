@@ -8,6 +8,7 @@ use borrow.Author.Tests.{ltb-false, eqb-true, le-ltb}
 use lib.Dec.{ltb, eqb}
 use lib.ListN.{length, drop, take-append-drop, drop-of-length-le}
 use lib.Seq.{drop-drop}
+use Rattle.basics.proofs.Clash.{clash}
 use Rattle.ops.specs.declared.refusals.Refusal.{Refusal}
 use Rattle.ops.specs.declared.refusals.Refusal.the-variants.{CutShort, WrongLength, UnknownKind, LeftOut, TooManyLanes, WrongMode, TooManyOps, TooManyMarks, FileTooLong}
 use Rattle.ops.specs.declared.records.Record.{Record}
@@ -16,16 +17,15 @@ use Rattle.byte_fields.specs.Bytes.{u16At, u32At, textAt, le16, le32}
 use Rattle.kind_table.specs.Kinds.{shape, kindAt, indexOf}
 use Rattle.ops.specs.Refusals.{numberOf}
 use Rattle.ops.specs.Record.{recordAt, lengthOk, countOf, modeOf}
-use Rattle.ops.specs.Op.{Plain, Op, kindOf}
-use Rattle.ops.specs.Op.Plain.{comment, store, move, swap, locate, offset, deref, refer, cell, lane, get, put, peek, poke, alloc, free}
-use Rattle.ops.specs.Op.Op.{control, set, load, plain}
+use Rattle.ops.specs.Syntax.{Plain, Op, kindOf}
+use Rattle.ops.specs.Syntax.Plain.{comment, store, move, swap, locate, offset, deref, refer, cell, lane, get, put, peek, poke, alloc, free}
+use Rattle.ops.specs.Syntax.Op.{control, set, load, plain}
 use Rattle.ops.specs.Patch.{item, Loaded, ending, stop, push, onRecord, onFull, walk, patchOf, markOf}
-use Rattle.ops.specs.Ops.{modeIn, rowAt, opWith, opAt, opsOf}
-use Rattle.ops.specs.Ops.Patch.{ops, refused}
+use Rattle.ops.specs.Decode.{modeIn, rowAt, opWith, opAt, opsOf}
+use Rattle.ops.specs.Decode.Patch.{ops, refused}
 use Rattle.ops.specs.Write.{modeNumber, recordOf, payloadOf, encode, encodeAll, Below}
 use Rattle.byte_fields.proofs.TextAt.{length-text}
 use Rattle.file_laws.proofs.BytesBack.{text-add, back16, back32, back64, back-values}
-use Rattle.ops.proofs.Clash.{clash}
 use Rattle.file_laws.proofs.Rows.{rule, row-rule}
 use Rattle.patch_reader.proofs.Whole.{tells}
 use Rattle.file_laws.proofs.Meaning.{means}

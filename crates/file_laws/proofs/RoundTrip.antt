@@ -9,10 +9,10 @@ use borrow.Author.Tests.{le-ltb}
 use lib.Dec.{ltb}
 use lib.ListN.{length, drop, length-drop, length-append}
 use Rattle.kind_table.specs.Kinds.{indexOf}
-use Rattle.ops.specs.Op.{Op, kindOf}
+use Rattle.ops.specs.Syntax.{Op, kindOf}
 use Rattle.ops.specs.Patch.{Item, Loaded, push, walk, patchOf, markOf}
-use Rattle.ops.specs.Ops.{opAt, opCount, opsOf}
-use Rattle.ops.specs.Ops.Patch.{ops}
+use Rattle.ops.specs.Decode.{opAt, opCount, opsOf}
+use Rattle.ops.specs.Decode.Patch.{ops}
 use Rattle.ops.specs.Write.{payloadOf, encode, encodeAll, Fits, Each, markIn, marksIn, AllFit}
 use Rattle.file_laws.proofs.Digits.{after}
 use Rattle.patch_reader.proofs.Reading.{prepend, walk-end, walk-op}

@@ -4,61 +4,63 @@ use mathlib.Core.Bool.{Bool, true, false, cond, _&&_, _||_}
 use Prim.Native.Nat.{ℕ, _<_}
 use native.Mathlib.Omega.{arith}
 use lib.Dec.{T, leb, eqb, eqb→eq}
+use Rattle.kind_table.specs.Rows as row
+use Rattle.kind_table.specs.Columns.{empty, text, values, laneCount, amount, amountAndLanes, mode, leftOut, noLane, oneLane, ownLanes, oneInCheck, asBefore, ownCount, oneKnown}
 use Rattle.kind_table.specs.Kinds.{kind, shape, need, after, kinds, kindAt, indexOf}
-use Rattle.ops.specs.Op.{Control, Plain, Op, kindOf}
-use Rattle.ops.specs.Op.Control.{function, call, ret, while, if, else, end}
-use Rattle.ops.specs.Op.Plain.{comment, store, move, swap, locate, offset, deref, refer, cell, lane, get, put, peek, poke, alloc, free}
-use Rattle.ops.specs.Op.Op.{control, set, load, plain}
-use Rattle.ops.specs.Ops.{rows, rowAt}
+use Rattle.ops.specs.Syntax.{Control, Plain, Op, kindOf}
+use Rattle.ops.specs.Syntax.Control.{function, call, ret, while, if, else, end}
+use Rattle.ops.specs.Syntax.Plain.{comment, store, move, swap, locate, offset, deref, refer, cell, lane, get, put, peek, poke, alloc, free}
+use Rattle.ops.specs.Syntax.Op.{control, set, load, plain}
+use Rattle.ops.specs.Decode.{rows, rowAt}
 use Rattle.kind_table.specs.declared.kinds.Kind.{Kind}
-use Rattle.file_laws.proofs.Tested.{and-left, and-right, at}
+use Rattle.basics.proofs.Tables.{and-left, and-right, at}
 
 -- "Function, Call, Return, While, If, Else, End .. need 1"; "Else, like Function and Return, needs no lane when run"
 abbrev pub controlRule : Control → ℕ
-controlRule function = 3
-controlRule call = 1
-controlRule ret = 3
-controlRule while = 1
-controlRule if = 1
-controlRule else = 3
-controlRule end = 1
+controlRule function = oneInCheck
+controlRule call = oneLane
+controlRule ret = oneInCheck
+controlRule while = oneLane
+controlRule if = oneLane
+controlRule else = oneInCheck
+controlRule end = oneLane
 
 -- "Where, Get, Put, Peek, Poke, Alloc need 1; Store, the other cell ops and the lane-only ops need n"; "other ops keep it"
 abbrev pub plainRule : Plain → Kind
-plainRule (comment bs) = kind 1 0 0
-plainRule (store n) = kind 3 2 0
-plainRule (move v) = kind 4 0 0
-plainRule (swap n) = kind 3 2 0
-plainRule locate = kind 0 1 0
-plainRule (offset v n) = kind 5 2 0
-plainRule deref = kind 0 0 0
-plainRule refer = kind 0 0 0
-plainRule (cell k n) = kind 3 2 0
-plainRule (lane k n) = kind 3 2 0
-plainRule (get m) = kind 6 1 0
-plainRule (put m) = kind 6 1 0
-plainRule peek = kind 0 1 0
-plainRule poke = kind 0 1 0
-plainRule alloc = kind 0 1 0
-plainRule free = kind 0 0 0
+plainRule (comment bs) = kind text noLane asBefore
+plainRule (store n) = kind laneCount ownLanes asBefore
+plainRule (move v) = kind amount noLane asBefore
+plainRule (swap n) = kind laneCount ownLanes asBefore
+plainRule locate = kind empty oneLane asBefore
+plainRule (offset v n) = kind amountAndLanes ownLanes asBefore
+plainRule deref = kind empty noLane asBefore
+plainRule refer = kind empty noLane asBefore
+plainRule (cell k n) = kind laneCount ownLanes asBefore
+plainRule (lane k n) = kind laneCount ownLanes asBefore
+plainRule (get m) = kind mode oneLane asBefore
+plainRule (put m) = kind mode oneLane asBefore
+plainRule peek = kind empty oneLane asBefore
+plainRule poke = kind empty oneLane asBefore
+plainRule alloc = kind empty oneLane asBefore
+plainRule free = kind empty noLane asBefore
 
 -- "Set and Load make their own count; after Function, Call, Return, While, If, Else, End it is 1"
 abbrev pub rule : Op → Kind
-rule (control c) = kind 0 (controlRule c) 2
-rule (set k vs) = kind 2 0 1
-rule (load n) = kind 3 0 1
+rule (control c) = kind empty (controlRule c) oneKnown
+rule (set k vs) = kind values noLane ownCount
+rule (load n) = kind laneCount noLane ownCount
 rule (plain p) = plainRule p
 
 -- "kinds 268 to 274, 277"
 abbrev pub isLeftOut : ℕ → Bool
-isLeftOut k = cond (leb 52 k) (leb k 58) false || eqb k 61
+isLeftOut k = cond (leb row.sin k) (leb k row.pow) false || eqb k row.standardCall
 
 -- ---- the rows
 
 -- row k with entry x is left out, or has the number and the three columns of its op o
 abbrev agrees : ℕ → Op → Kind → Bool
 agrees k o x =
-    cond (isLeftOut k) (eqb (shape x) 7)
+    cond (isLeftOut k) (eqb (shape x) leftOut)
     (eqb (indexOf (kindOf o)) k
     && (eqb (shape x) (shape (rule o))
     && (eqb (need x) (need (rule o)) && eqb (after x) (after (rule o)))))
@@ -74,7 +76,7 @@ pub record Row (k : ℕ) : Type 0 where
 
 all-right : (k : ℕ) → k < 62 → T (agrees k (rowAt k) (kindAt k))
 unfolding kindAt indexOf rowAt rows right
-all-right k h = at right (kind 0 0 0) kinds tt k h
+all-right k h = at right (kind empty noLane asBefore) kinds tt k h
 
 clash : {P : Type 0} (b : Bool) → b ≡ false → T b → P
 clash true e t = let z : _≡_ {A = ℕ} 0 1 = cc in absurd (omega arith)

@@ -12,9 +12,9 @@ use Rattle.byte_fields.specs.Bytes.{u16At, u32At, le16, le32}
 use Rattle.kind_table.specs.Kinds.{shape, kindAt, indexOf}
 use Rattle.ops.specs.Record.{recordAt, bodyAt, modeOf}
 use Rattle.ops.specs.declared.records.Record.the-variants.{Whole}
-use Rattle.ops.specs.Op.{Op, kindOf}
+use Rattle.ops.specs.Syntax.{Op, kindOf}
 use Rattle.ops.specs.Patch.{Item, item}
-use Rattle.ops.specs.Ops.{opAt, opCount}
+use Rattle.ops.specs.Decode.{opAt, opCount}
 use Rattle.byte_fields.specs.Storage.{placed}
 use Rattle.ops.specs.Write.{recordOf, payloadOf, encode, encodeAll, Fits}
 use Rattle.file_laws.proofs.Rows.{rule}

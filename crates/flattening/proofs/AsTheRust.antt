@@ -8,11 +8,11 @@ use mathlib.Core.Bool.{Bool, true, false, cond, _||_}
 use mathlib.Core.List.{List, [], _∷_, _++_, append-nil, append-assoc}
 use lib.Dec.{eqb, ltb}
 use lib.ListN.{length, length-append}
-use Rattle.ops.specs.Op.{Op}
+use Rattle.basics.proofs.Clash.{clash}
+use Rattle.ops.specs.Syntax.{Op}
 use Rattle.machine_model.specs.Step.{enter}
 use Rattle.machine_model.specs.Formed.{Each, Rising}
 use Rattle.machine_model.proofs.Each.{each-to}
-use Rattle.machine_model.proofs.Scans.{clash}
 use Rattle.machine_model.proofs.Table.{each-enter, rising-enter}
 use Rattle.flattening.specs.Flatten.{Note, note, notes, Numbered, named, has, fresh, number, body, bodies, gathered, others, laid, flatten}
 use Rattle.flattening.specs.declared.body.Body.{Body}

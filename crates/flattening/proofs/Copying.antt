@@ -9,11 +9,11 @@ use lib.Dec.{eqb}
 use lib.ListN.{length, getD, take, drop, length-append, length-drop, drop-of-length-le}
 use lib.Seq.{drop-cons, take-append-seam}
 use Rattle.byte_fields.specs.Bytes.{u32At, textAt, le16, le32}
-use Rattle.ops.specs.Op.{Op, kindOf}
-use Rattle.ops.specs.Op.Op.{plain}
-use Rattle.ops.specs.Op.Plain.{free}
-use Rattle.ops.specs.Ops.{Patch, opsOf}
-use Rattle.ops.specs.Ops.Patch.{ops}
+use Rattle.ops.specs.Syntax.{Op, kindOf}
+use Rattle.ops.specs.Syntax.Op.{plain}
+use Rattle.ops.specs.Syntax.Plain.{free}
+use Rattle.ops.specs.Decode.{Patch, opsOf}
+use Rattle.ops.specs.Decode.Patch.{ops}
 use Rattle.ops.specs.Patch.{patchOf}
 use Rattle.byte_fields.specs.Storage.{placed}
 use Rattle.ops.specs.Write.{recordOf, payloadOf, encode, encodeAll, Below}
@@ -25,17 +25,17 @@ use Rattle.byte_fields.proofs.Storage.{placed-none, placed-then, length-placed}
 use Rattle.file_laws.proofs.Written.{length-encode, encode-append, parts, ends}
 use Rattle.flattening.specs.Flatten.{body}
 use Rattle.flattening.specs.Scope.{partOf}
-use Rattle.flattening.specs.Flattened.{held, opsIn}
+use Rattle.flattening.specs.Flattened.{goodOps, opsIn}
 
 -- ---- a good file
 
 module _ (s : List ℕ) (z : patchOf s .number ≡ 0) where
-  pub held-is : opsOf s ≡ ops (opsIn s)
+  pub is-patch : opsOf s ≡ ops (opsIn s)
   unfolding opsIn
-  held-is = let e = ops-are s z in e ∙ sym (ap (λ (x : Patch). ops (held x)) e)
+  is-patch = let e = ops-are s z in e ∙ sym (ap (λ (x : Patch). ops (goodOps x)) e)
 
   pub file-bytes : Below 256 s → encodeAll (opsIn s) ≡ s
-  file-bytes w = bytes-back s w (opsIn s) held-is
+  file-bytes w = bytes-back s w (opsIn s) is-patch
 
 pub encode-length : (xs ys : List Op) → length (encodeAll (xs ++ ys)) ≡ length (encodeAll xs) + length (encodeAll ys)
 encode-length xs ys = ap length (encode-append xs ys) ∙ length-append (encodeAll xs) (encodeAll ys)

@@ -10,16 +10,16 @@ use mathlib.Core.List.{List, [], _∷_, _++_, map, append-assoc}
 use lib.Dec.{eqb, ltb}
 use lib.ListN.{length, getD, set, take, drop, replicate, length-append, length-map, length-replicate, take-append-drop}
 use lib.Seq.{append-snoc, drop-cons, set-at, take-at, drop-at, take-append-seam}
-use Rattle.ops.specs.Op.{Op}
+use Rattle.basics.proofs.Clash.{clash}
+use Rattle.basics.proofs.Tests.{or-right}
+use Rattle.ops.specs.Syntax.{Op}
 use Rattle.byte_fields.specs.Storage.{fill}
-use Rattle.ops.specs.Ops.{Patch, opsOf}
-use Rattle.ops.specs.Ops.Patch.{ops}
+use Rattle.ops.specs.Decode.{Patch, opsOf}
+use Rattle.ops.specs.Decode.Patch.{ops}
 use Rattle.ops.specs.Patch.{patchOf}
 use Rattle.ops.specs.Write.{Below, encodeAll, marksIn}
 use Rattle.file_laws.proofs.Fitting.{few-marks-in}
 use Rattle.file_laws.proofs.Meaning.{refused-are}
-use Rattle.machine_model.proofs.Outcomes.{or-right}
-use Rattle.machine_model.proofs.Scans.{clash}
 use Rattle.flattening.specs.Flatten.{notes, Numbered, number, bodies, others, laid, flatten, Flat}
 use Rattle.flattening.specs.Flatten.Numbered.{stray, numbered}
 use Rattle.flattening.specs.Flatten.Flat.{loose, flat}
@@ -31,8 +31,8 @@ use Rattle.answers.specs.declared.flatten.Flattened.{Flattened}
 use Rattle.answers.specs.declared.flatten.Flattened.the-variants.{BadFile, NoOpenEnd, NoRoom, Written}
 use Rattle.flattening.specs.declared.flatten.Columns.{Columns}
 use Rattle.flattening.proofs.FewBodies.{few-bodies, length-bodies}
-use Rattle.flattening.proofs.Copying.{held-is}
-use Rattle.flattening.proofs.Again.{patch-again, Says, bodies-say}
+use Rattle.flattening.proofs.Copying.{is-patch}
+use Rattle.flattening.proofs.FlattenedIsAPatch.{patch-again, Says, bodies-say}
 
 -- ---- the columns: what `flatten_columns` lends of its arrays
 
@@ -234,9 +234,9 @@ module _ (s o o′ : List ℕ) (l : List Body) (c : Columns) (er : c .rows ≡ b
       by : (t : Bool) → eqb (patchOf s .number) 0 ≡ t → Makes (toList (flattenOf s o))
       by true q =
           let z : patchOf s .number ≡ 0 = eqb-true (patchOf s .number) 0 q in
-          let h = held-is s z in
+          let h = is-patch s z in
           subst (λ (p : Patch). Makes (toList (λ ns fs cs. ofPatch s o ns fs cs p))) (sym h)
-          (by-flat (opsIn s) (few-marks-in s (opsIn s) (held-is s z)) (flatten (opsIn s)) refl (e ∙ ap (λ (p : Patch). toZeros (λ ns fs cs. ofPatch s o ns fs cs p)) h))
+          (by-flat (opsIn s) (few-marks-in s (opsIn s) (is-patch s z)) (flatten (opsIn s)) refl (e ∙ ap (λ (p : Patch). toZeros (λ ns fs cs. ofPatch s o ns fs cs p)) h))
       by false q =
           let h = refused-are s (eqb-false (patchOf s .number) 0 q) in
           subst (λ (p : Patch). Makes (toList (λ ns fs cs. ofPatch s o ns fs cs p))) (sym h)
@@ -300,7 +300,7 @@ module _ (s o : List ℕ) (l : List Body) (w : Below 256 s) where
       by : (t : Bool) → eqb (patchOf s .number) 0 ≡ t → Told s l b k (onList (flattenOf s o))
       by true q =
           let z : patchOf s .number ≡ 0 = eqb-true (patchOf s .number) 0 q in
-          let h = held-is s z in
+          let h = is-patch s z in
           subst (λ (p : Patch). Told s l b k (onList (λ ns fs cs. ofPatch s o ns fs cs p))) (sym h)
           (flats z (flatten (opsIn s)) refl (ap (λ (p : Patch). onList (λ ns fs cs. ofPatch s o ns fs cs p) .answer) (sym h) ∙ a))
       by false q =

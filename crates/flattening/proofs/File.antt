@@ -7,13 +7,13 @@ use mathlib.Core.Path.{_≡_, refl, ap, ap₂, sym, _∙_}
 use mathlib.Core.Bool.{true, false}
 use mathlib.Core.List.{List, [], _∷_, _++_, map}
 use lib.ListN.{length, getD, take, length-map, length-append, List·getD-map}
-use Rattle.ops.specs.Op.{Op}
-use Rattle.ops.specs.Op.Op.{control, set, load, plain}
-use Rattle.ops.specs.Op.Plain.{free}
+use Rattle.ops.specs.Syntax.{Op}
+use Rattle.ops.specs.Syntax.Op.{control, set, load, plain}
+use Rattle.ops.specs.Syntax.Plain.{free}
 use Rattle.byte_fields.specs.Storage.{fill}
-use Rattle.ops.specs.Patch.{Item, kindIn, markOf, patchOf}
+use Rattle.ops.specs.Patch.{Item, rowIn, markOf, patchOf}
 use Rattle.patch_reader.specs.Answer.{readOf}
-use Rattle.ops.specs.Ops.{rows, rowAt, opWith, opAt}
+use Rattle.ops.specs.Decode.{rows, rowAt, opWith, opAt}
 use Rattle.ops.specs.Write.{encodeAll, markIn, marksIn}
 use Rattle.patch_reader.specs.declared.reader.Read.{Read}
 use Rattle.file_laws.proofs.Encoded.{known}
@@ -28,13 +28,12 @@ use Rattle.flattening.specs.Flatten.Numbered.{stray, numbered}
 use Rattle.flattening.specs.Flatten.Flat.{loose, flat}
 use Rattle.flattening.specs.Scope.{rowNote, rowNotes, rowMarks, told}
 use Rattle.flattening.specs.declared.numbering.Numbering.{Numbering}
-use Rattle.flattening.specs.declared.numbering.Numbering.the-variants.{Done}
-use Rattle.flattening.specs.Flattened.{outcome, held, opsIn, numberIn, firstIn, countIn, tooShort, ofFlat, ofPatch, flattenOf}
-use Rattle.answers.specs.declared.flatten.Flattened.the-variants.{BadFile, NoOpenEnd, NoRoom, Written}
-use Rattle.flattening.specs.declared.numbering.Numbering.the-variants as numbering
+use Rattle.flattening.specs.declared.numbering.Numbering.the-variants.{NoOpenEnd, Done}
+use Rattle.flattening.specs.Flattened.{outcome, goodOps, opsIn, numberIn, firstIn, countIn, tooShort, ofFlat, ofPatch, flattenOf}
+use Rattle.answers.specs.declared.flatten.Flattened.the-variants as flattened
 use Rattle.flattening.proofs.Flattened.{same-ops, same-bytes}
 use Rattle.flattening.proofs.FewBodies.{few-bodies, length-bodies}
-use Rattle.flattening.proofs.Copying.{held-is, file-bytes}
+use Rattle.flattening.proofs.Copying.{is-patch, file-bytes}
 
 -- ---- rows and ops
 
@@ -67,35 +66,27 @@ note-with s p n (load m) = refl
 note-with s p n (plain q) = refl
 
 module _ (s : List ℕ) where
-  note-item : (i : Item) → IsItem s i → rowNote (i .kind) ≡ note (opAt s i)
+  note-item : (i : Item) → IsItem s i → rowNote (i .row) ≡ note (opAt s i)
   unfolding opAt
   note-item i h =
-      let t = tells s (h .first) (i .kind) (i .place) (h .len) (i .count) (h .next) (h .is) in
-      row-note (i .kind) (t .small) ∙ sym (note-with s (i .place) (i .count) (rowAt (i .kind)))
+      let t = tells s (h .first) (i .row) (i .payload) (h .len) (i .count) (h .next) (h .is) in
+      row-note (i .row) (t .small) ∙ sym (note-with s (i .payload) (i .count) (rowAt (i .row)))
 
-  mark-item : (i : Item) → IsItem s i → markOf (i .kind) ≡ markIn (opAt s i)
+  mark-item : (i : Item) → IsItem s i → markOf (i .row) ≡ markIn (opAt s i)
   mark-item i h = ap markOf (sym (means s i h .row)) ∙ known (opAt s i) .3
 
-  notes-are : (is : List Item) → Every (IsItem s) is → rowNotes (map kindIn is) ≡ notes (map (opAt s) is)
+  notes-are : (is : List Item) → Every (IsItem s) is → rowNotes (map rowIn is) ≡ notes (map (opAt s) is)
   notes-are [] e = refl
   notes-are (i ∷ is) e = ap₂ (λ (x : Note) (xs : List Note). x ∷ xs) (note-item i (e .0)) (notes-are is (e .1))
 
-  marks-are : (is : List Item) → Every (IsItem s) is → rowMarks (map kindIn is) ≡ marksIn (map (opAt s) is)
+  marks-are : (is : List Item) → Every (IsItem s) is → rowMarks (map rowIn is) ≡ marksIn (map (opAt s) is)
   marks-are [] e = refl
   marks-are (i ∷ is) e = ap₂ (λ (x y : ℕ). x + y) (mark-item i (e .0)) (marks-are is (e .1))
-
--- ---- what the numbering told
-
-pub stray-told : (x : Numbering) (p : ℕ) (cs seen : List ℕ) (n : Numbered) → x ≡ numbering.NoOpenEnd p → told x cs seen ≡ n → stray p ≡ n
-stray-told x p cs seen n e q = ap (λ (y : Numbering). told y cs seen) (sym e) ∙ q
-
-pub done-told : (x : Numbering) (owner seen : List ℕ) (m k : ℕ) (n : Numbered) → x ≡ Done → m ≡ k → told x (take m owner) seen ≡ n → numbered (take k owner) seen ≡ n
-done-told x owner seen m k n e h q = ap (λ (j : ℕ). numbered (take j owner) seen) (sym h) ∙ ap (λ (y : Numbering). told y (take m owner) seen) (sym e) ∙ q
 
 -- ---- a bad file
 
 module _ (s : List ℕ) (r : Read) (e : r ≡ readOf (patchOf s)) where
-  pub bad-file : (o ns fs ks : List ℕ) → (r .number ≡ 0 → ⊥) → outcome (BadFile (r .number) (r .place)) o ns fs ks ≡ flattenOf s o ns fs ks
+  pub bad-file : (o ns fs ks : List ℕ) → (r .number ≡ 0 → ⊥) → outcome (flattened.BadFile (r .number) (r .place)) o ns fs ks ≡ flattenOf s o ns fs ks
   unfolding flattenOf
   bad-file o ns fs ks z = rw (refused-are s (loaded.bad-file s r e z), loaded.number-is s r e, loaded.bad-place s r e z)
 
@@ -107,77 +98,81 @@ module _ (s : List ℕ) (r : Read) (e : r ≡ readOf (patchOf s)) (z : r .number
 
   ops-here : opsIn s ≡ map (opAt s) (patchOf s .items)
   unfolding opsIn
-  ops-here = ap held (ops-are s good)
+  ops-here = ap goodOps (ops-are s good)
 
-  pub op-count : length (opsIn s) ≡ r .place
-  op-count = ap length ops-here ∙ length-map (patchOf s .items) (opAt s) ∙ sym (loaded.place-is s r e z)
+  pub op-count : length (opsIn s) ≡ r .ops
+  op-count = ap length ops-here ∙ length-map (patchOf s .items) (opAt s) ∙ sym (loaded.ops-is s r e)
 
-  pub op-few : r .place ≤ 4096
-  op-few = loaded.few s r e z
+  module _ (k₀ k : List ℕ) (ek : k ≡ fill (map rowIn (patchOf s .items)) k₀) where
+    rows-are : take (r .ops) k ≡ map rowIn (patchOf s .items)
+    rows-are = loaded.part-is s r e rowIn k k₀ ek
 
-  module _ (k₀ k : List ℕ) (ek : k ≡ fill (map kindIn (patchOf s .items)) k₀) where
-    kinds-are : take (r .place) k ≡ map kindIn (patchOf s .items)
-    kinds-are = loaded.part-is s r e z kindIn k k₀ ek
+    notes-here : rowNotes (take (r .ops) k) ≡ notes (opsIn s)
+    notes-here = ap rowNotes rows-are ∙ notes-are s (patchOf s .items) (items-are s) ∙ ap notes (sym ops-here)
 
-    pub kinds-length : length (take (r .place) k) ≡ r .place
-    kinds-length = sym (loaded.part-length s r e z kindIn k k₀ ek)
-
-    pub kinds-fit : r .place ≤ length k
-    kinds-fit = loaded.part-fits s r e z kindIn k k₀ ek
-
-    notes-here : rowNotes (take (r .place) k) ≡ notes (opsIn s)
-    notes-here = ap rowNotes kinds-are ∙ notes-are s (patchOf s .items) (items-are s) ∙ ap notes (sym ops-here)
-
-    marks-here : rowMarks (take (r .place) k) ≡ marksIn (opsIn s)
-    marks-here = ap rowMarks kinds-are ∙ marks-are s (patchOf s .items) (items-are s) ∙ ap marksIn (sym ops-here)
+    marks-here : rowMarks (take (r .ops) k) ≡ marksIn (opsIn s)
+    marks-here = ap rowMarks rows-are ∙ marks-are s (patchOf s .items) (items-are s) ∙ ap marksIn (sym ops-here)
 
     by-flat : (o ns fs ks : List ℕ) (f : Flat) → flatten (opsIn s) ≡ f → ofFlat s o ns fs ks (marksIn (opsIn s)) f ≡ flattenOf s o ns fs ks
     unfolding flattenOf
-    by-flat o ns fs ks f q = ap (ofFlat s o ns fs ks (marksIn (opsIn s))) (sym q) ∙ ap (ofPatch s o ns fs ks) (sym (held-is s good))
+    by-flat o ns fs ks f q = ap (ofFlat s o ns fs ks (marksIn (opsIn s))) (sym q) ∙ ap (ofPatch s o ns fs ks) (sym (is-patch s good))
 
-    flat-of : (x : Numbered) → x ≡ number 0 0 0 [] [] (rowNotes (take (r .place) k)) → flatten (opsIn s) ≡ laid (opsIn s) x
+    flat-of : (x : Numbered) → x ≡ number 0 0 0 [] [] (rowNotes (take (r .ops) k)) → flatten (opsIn s) ≡ laid (opsIn s) x
     unfolding flatten
     flat-of x q = ap (λ (ns : List Note). laid (opsIn s) (number 0 0 0 [] [] ns)) (sym notes-here) ∙ ap (laid (opsIn s)) (sym q)
 
     -- "An End with no open bracket is 10"
-    pub stray-file : (o ns fs ks : List ℕ) (p : ℕ) → stray p ≡ number 0 0 0 [] [] (rowNotes (take (r .place) k)) → outcome (NoOpenEnd p) o ns fs ks ≡ flattenOf s o ns fs ks
+    pub stray-file : (o ns fs ks : List ℕ) (x : Numbering) (p : ℕ) (cs seen : List ℕ) → x ≡ NoOpenEnd p → told x cs seen ≡ number 0 0 0 [] [] (rowNotes (take (r .ops) k))
+        → outcome (flattened.NoOpenEnd p) o ns fs ks ≡ flattenOf s o ns fs ks
     unfolding flatten
-    stray-file o ns fs ks p q = by-flat o ns fs ks (loose p) (flat-of (stray p) q)
+    stray-file o ns fs ks x p cs seen ex t =
+        by-flat o ns fs ks (loose p) (flat-of (stray p) (ap (λ (y : Numbering). told y cs seen) (sym ex) ∙ t))
 
-    module _ (cs seen : List ℕ) (q : numbered cs seen ≡ number 0 0 0 [] [] (rowNotes (take (r .place) k))) where
+    -- every op has its body
+    module _ (x : Numbering) (owner seen : List ℕ) (done : x ≡ Done)
+        (t : told x (take (length (take (r .ops) k)) owner) seen ≡ number 0 0 0 [] [] (rowNotes (take (r .ops) k))) where
+      abbrev cs : List ℕ
+      cs = take (r .ops) owner
+
+      told-is : numbered cs seen ≡ number 0 0 0 [] [] (rowNotes (take (r .ops) k))
+      told-is =
+          ap (λ (j : ℕ). numbered (take j owner) seen) (loaded.part-length s r e rowIn k k₀ ek)
+          ∙ ap (λ (y : Numbering). told y (take (length (take (r .ops) k)) owner) seen) (sym done)
+          ∙ t
+
       flat-ops : List Op
       flat-ops = gathered (others seen) cs (opsIn s) ++ body 0 cs (opsIn s)
 
       flat-is : flatten (opsIn s) ≡ flat flat-ops (bodies 0 (others seen) cs (opsIn s))
       unfolding flat-ops flatten
-      flat-is = flat-of (numbered cs seen) q
+      flat-is = flat-of (numbered cs seen) told-is
 
       answer-is : (o ns fs ks : List ℕ) → ofFlat s o ns fs ks (marksIn (opsIn s)) (flat flat-ops (bodies 0 (others seen) cs (opsIn s))) ≡ flattenOf s o ns fs ks
       answer-is o ns fs ks = by-flat o ns fs ks _ flat-is
 
-      entries-few : length (others seen) ≤ rowMarks (take (r .place) k)
-      entries-few = omega (arith, few-bodies (opsIn s) cs seen (ap (number 0 0 0 [] []) (sym notes-here) ∙ sym q), marks-here)
+      entries-few : length (others seen) ≤ rowMarks (take (r .ops) k)
+      entries-few = omega (arith, few-bodies (opsIn s) cs seen (ap (number 0 0 0 [] []) (sym notes-here) ∙ sym told-is), marks-here)
 
       -- ---- no room
 
       module _ (o ns fs ks : List ℕ) where
-        no-room : tooShort s o ns fs ks (marksIn (opsIn s)) ≡ true → outcome NoRoom o ns fs ks ≡ flattenOf s o ns fs ks
+        no-room : tooShort s o ns fs ks (marksIn (opsIn s)) ≡ true → outcome flattened.NoRoom o ns fs ks ≡ flattenOf s o ns fs ks
         no-room t = sym (rw t refl) ∙ answer-is o ns fs ks
 
-        pub short-bytes : length o < length s → outcome NoRoom o ns fs ks ≡ flattenOf s o ns fs ks
+        pub short-bytes : length o < length s → outcome flattened.NoRoom o ns fs ks ≡ flattenOf s o ns fs ks
         short-bytes h = no-room (rw (lt-ltb (length o) (length s) h) refl)
 
-        module _ (ho : length s ≤ length o) (m : ℕ) (em : m ≡ rowMarks (take (r .place) k)) where
+        module _ (ho : length s ≤ length o) (m : ℕ) (em : m ≡ rowMarks (take (r .ops) k)) where
           m-is : m ≡ marksIn (opsIn s)
           m-is = em ∙ marks-here
 
-          pub short-numbers : length ns < m → outcome NoRoom o ns fs ks ≡ flattenOf s o ns fs ks
+          pub short-numbers : length ns < m → outcome flattened.NoRoom o ns fs ks ≡ flattenOf s o ns fs ks
           short-numbers h = no-room (rw (sym m-is, le-ltb (length o) (length s) ho, lt-ltb (length ns) m h) refl)
 
-          pub short-firsts : m ≤ length ns → length fs < m → outcome NoRoom o ns fs ks ≡ flattenOf s o ns fs ks
+          pub short-firsts : m ≤ length ns → length fs < m → outcome flattened.NoRoom o ns fs ks ≡ flattenOf s o ns fs ks
           short-firsts hn h = no-room (rw (sym m-is, le-ltb (length o) (length s) ho, le-ltb (length ns) m hn, lt-ltb (length fs) m h) refl)
 
-          pub short-counts : m ≤ length ns → m ≤ length fs → length ks < m → outcome NoRoom o ns fs ks ≡ flattenOf s o ns fs ks
+          pub short-counts : m ≤ length ns → m ≤ length fs → length ks < m → outcome flattened.NoRoom o ns fs ks ≡ flattenOf s o ns fs ks
           short-counts hn hf h = no-room (rw (sym m-is, le-ltb (length o) (length s) ho, le-ltb (length ns) m hn, le-ltb (length fs) m hf, lt-ltb (length ks) m h) refl)
 
           -- ---- room
@@ -192,7 +187,7 @@ module _ (s : List ℕ) (r : Read) (e : r ≡ readOf (patchOf s)) (z : r .number
             unfolding flat-ops
             fits =
                 let few : length (gathered (others seen) cs (opsIn s)) ≤ 4096 =
-                omega (arith, same-ops (opsIn s) flat-ops _ flat-is, length-append (gathered (others seen) cs (opsIn s)) (body 0 cs (opsIn s)), op-count, op-few) in
+                omega (arith, same-ops (opsIn s) flat-ops _ flat-is, length-append (gathered (others seen) cs (opsIn s)) (body 0 cs (opsIn s)), op-count, loaded.few s r e) in
                 ((few, omega (arith, bytes-same, ho)), (omega (arith, entries-few, em, hn), (omega (arith, entries-few, em, hf), omega (arith, entries-few, em, hk))))
 
             pub written-file : (n : ℕ) (o′ ns′ fs′ ks′ : List ℕ) → n ≡ length (others seen)
@@ -200,17 +195,17 @@ module _ (s : List ℕ) (r : Read) (e : r ≡ readOf (patchOf s)) (z : r .number
                 → ns′ ≡ fill (map numberIn (bodies 0 (others seen) cs (opsIn s))) ns
                 → fs′ ≡ fill (map firstIn (bodies 0 (others seen) cs (opsIn s))) fs
                 → ks′ ≡ fill (map countIn (bodies 0 (others seen) cs (opsIn s))) ks
-                → outcome (Written (r .place) (length s) n) o′ ns′ fs′ ks′ ≡ flattenOf s o ns fs ks
+                → outcome (flattened.Written (r .ops) (length s) n) o′ ns′ fs′ ks′ ≡ flattenOf s o ns fs ks
             unfolding flat-ops
             written-file n o′ ns′ fs′ ks′ en eo e1 e2 e3 =
                 let gs = gathered (others seen) cs (opsIn s) ++ body 0 cs (opsIn s) in
                 let bs = bodies 0 (others seen) cs (opsIn s) in
-                let a : r .place ≡ length gs = sym op-count ∙ sym (same-ops (opsIn s) flat-ops _ flat-is) in
+                let a : r .ops ≡ length gs = sym op-count ∙ sym (same-ops (opsIn s) flat-ops _ flat-is) in
                 let b : length s ≡ length (encodeAll gs) = sym bytes-same in
                 let c : n ≡ length bs = en ∙ sym (length-bodies 0 (others seen) cs (opsIn s)) in
                 let t : tooShort s o ns fs ks (marksIn (opsIn s)) ≡ false =
                 rw (sym m-is, le-ltb (length o) (length s) ho, le-ltb (length ns) m hn, le-ltb (length fs) m hf, le-ltb (length ks) m hk) refl in
-                let x : outcome (Written (r .place) (length s) n) o′ ns′ fs′ ks′
-                ≡ outcome (Written (length gs) (length (encodeAll gs)) (length bs)) (fill (encodeAll gs) o) (fill (map numberIn bs) ns) (fill (map firstIn bs) fs) (fill (map countIn bs) ks) =
+                let x : outcome (flattened.Written (r .ops) (length s) n) o′ ns′ fs′ ks′
+                ≡ outcome (flattened.Written (length gs) (length (encodeAll gs)) (length bs)) (fill (encodeAll gs) o) (fill (map numberIn bs) ns) (fill (map firstIn bs) fs) (fill (map countIn bs) ks) =
                 cc in
                 x ∙ sym (rw t refl) ∙ answer-is o ns fs ks

@@ -7,7 +7,9 @@ use mathlib.Core.Bool.{Bool, true, false, cond, _||_}
 use mathlib.Core.List.{List, [], _∷_, _++_}
 use lib.Dec.{eqb, ltb}
 use lib.ListN.{length, length-append}
-use Rattle.ops.specs.Op.{Op}
+use Rattle.basics.proofs.Clash.{clash}
+use Rattle.basics.proofs.Tests.{or-first, or-second, or-either}
+use Rattle.ops.specs.Syntax.{Op}
 use Rattle.ops.specs.Write.{encode, encodeAll, markIn, marksIn}
 use Rattle.machine_model.specs.Step.{enter}
 use Rattle.machine_model.specs.Formed.{Each, Rising}
@@ -16,7 +18,6 @@ use Rattle.flattening.specs.declared.body.Body.{Body}
 use Rattle.flattening.specs.Flatten.Note.{enters, opens, closes, stays}
 use Rattle.flattening.specs.Flatten.Numbered.{stray, numbered}
 use Rattle.flattening.specs.Flatten.Flat.{flat}
-use Rattle.machine_model.proofs.Scans.{clash}
 use Rattle.machine_model.proofs.Table.{rising-enter}
 
 -- the sum of a number that each op has
@@ -30,20 +31,8 @@ has-cond : (b : Bool) (c : ℕ) (xs ys : List ℕ) → has c xs ≡ true → has
 has-cond true c xs ys p q = p
 has-cond false c xs ys p q = q
 
-or-true : (a b : Bool) → b ≡ true → (a || b) ≡ true
-or-true true b e = refl
-or-true false b e = e
-
-or-left : (a b : Bool) → a ≡ true → (a || b) ≡ true
-or-left true b e = refl
-or-left false b e = clash (cc)
-
-pub or-either : (a b : Bool) (P : Type 0) → (a || b) ≡ true → (a ≡ true → P) → (b ≡ true → P) → P
-or-either true b P e f g = f refl
-or-either false b P e f g = g e
-
 same-has : (c : ℕ) (xs : List ℕ) → has c (c ∷ xs) ≡ true
-same-has c xs = or-left (eqb c c) _ (eq-eqb c c refl)
+same-has c xs = or-first (eqb c c) _ (eq-eqb c c refl)
 
 pub has-self : (c : ℕ) (xs : List ℕ) → has c (enter c xs) ≡ true
 unfolding enter
@@ -53,16 +42,16 @@ has-self c (x ∷ xs) =
     (by (eqb c x) refl (has-self c xs))
   where
     by : (b : Bool) → eqb c x ≡ b → has c (enter c xs) ≡ true → has c (cond b (x ∷ xs) (x ∷ enter c xs)) ≡ true
-    by true e h = or-left (eqb c x) _ e
-    by false e h = or-true (eqb c x) _ h
+    by true e h = or-first (eqb c x) _ e
+    by false e h = or-second (eqb c x) _ h
 
 pub has-more : (p c : ℕ) (xs : List ℕ) → has c xs ≡ true → has c (enter p xs) ≡ true
 unfolding enter
 has-more p c [] e = clash (cc)
 has-more p c (x ∷ xs) e =
-    has-cond (ltb p x) c _ _ (or-true (eqb c p) _ e)
+    has-cond (ltb p x) c _ _ (or-second (eqb c p) _ e)
     (has-cond (eqb p x) c _ _ e
-    (or-either (eqb c x) (has c xs) _ e (λ h. or-left (eqb c x) _ h) (λ h. or-true (eqb c x) _ (has-more p c xs h))))
+    (or-either (eqb c x) (has c xs) _ e (λ h. or-first (eqb c x) _ h) (λ h. or-second (eqb c x) _ (has-more p c xs h))))
 
 -- ---- what the numbering gives
 
@@ -143,7 +132,7 @@ others-rising (suc x ∷ xs) r = ((omega arith, above (suc x) xs (r .0)), r)
 others-has : (c : ℕ) (xs : List ℕ) → has c xs ≡ true → has c (0 ∷ others xs) ≡ true
 others-has c [] h = clash (cc)
 others-has c (zero ∷ xs) h = h
-others-has c (suc x ∷ xs) h = or-true (eqb c 0) _ h
+others-has c (suc x ∷ xs) h = or-second (eqb c 0) _ h
 
 each-has : (xs ys cs : List ℕ) → ((c : ℕ) → has c xs ≡ true → has c ys ≡ true) → Each (λ c. has c xs ≡ true) cs → Each (λ c. has c ys ≡ true) cs
 each-has xs ys [] s e = tt

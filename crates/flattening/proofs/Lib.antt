@@ -1,10 +1,11 @@
 pub mod Flattened
 pub mod Flags
-pub mod Turns
+pub mod NumberingLoop
 pub mod Copying
 pub mod Writing
+pub mod InOrder
 pub mod FewBodies
 pub mod File
-pub mod Again
+pub mod FlattenedIsAPatch
 pub mod Entries
 pub mod AsTheRust

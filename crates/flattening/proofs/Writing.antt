@@ -6,7 +6,7 @@ use native.Mathlib.Omega.{arith}
 use mathlib.Core.Path.{_≡_, refl, ap, sym, _∙_}
 use mathlib.Core.List.{List, [], _∷_, _++_, map, append-assoc, append-nil}
 use lib.ListN.{length, getD, set, drop, length-append, length-set, drop-of-length-le}
-use Rattle.ops.specs.Op.{Op}
+use Rattle.ops.specs.Syntax.{Op}
 use Rattle.byte_fields.specs.Storage.{fill, placed}
 use Rattle.ops.specs.Write.{encodeAll}
 use Rattle.byte_fields.proofs.Storage.{placed-then, length-placed, fill-snoc}

@@ -4,6 +4,7 @@ use mathlib.Core.Bool.{cond}
 use mathlib.Core.List.{List, [], _∷_, _++_, map}
 use lib.Dec.{ltb}
 use lib.ListN.{length, getD, drop}
+use Rattle.basics.specs.Limits.{mostMarks}
 use Rattle.answers.specs.Flatten.{numberOf, placeOf, bytesOf, bodiesOf}
 use Rattle.flattening.specs.Flattened.{Outcome, numberIn, firstIn, countIn, flattenOf}
 use Rattle.flattening.specs.declared.body.Body.{Body}
@@ -43,9 +44,9 @@ reportOf a = record { number = numberOf a; place = placeOf a; bytes = bytesOf a;
 
 -- ---- the work by value
 
--- the room that counts: no patch has more than 256 marks
+-- the room that counts: no patch has more marks than "256 Function marks"
 unfoldable pub roomOf : ℕ → ℕ
-roomOf n = cond (ltb n 256) n 256
+roomOf n = cond (ltb n mostMarks) n mostMarks
 
 -- one entry, and the first n
 abbrev pub entryOf : List ℕ → List ℕ → List ℕ → ℕ → Body

@@ -5,9 +5,9 @@ use mathlib.Core.Bool.{Bool, false, cond, _||_}
 use mathlib.Core.List.{List, [], _∷_, _++_}
 use lib.Dec.{eqb}
 use lib.ListN.{length}
-use Rattle.ops.specs.Op.{Op, Control}
-use Rattle.ops.specs.Op.Control.{function, call, ret, while, if, else, end}
-use Rattle.ops.specs.Op.Op.{control, set, load, plain}
+use Rattle.ops.specs.Syntax.{Op, Control, isFunction}
+use Rattle.ops.specs.Syntax.Control.{function, call, ret, while, if, else, end}
+use Rattle.ops.specs.Syntax.Op.{control, set, load, plain}
 use Rattle.machine_model.specs.Step.{enter}
 use Rattle.flattening.specs.declared.body.Body.{Body}
 
@@ -30,7 +30,7 @@ note (set k vs) = stays
 note (load n) = stays
 note (plain p) = stays
 
--- the body of each op, and the bodies seen, in rising number; or the place of "an End with no open bracket"
+-- the body of each op, and the bodies seen, in rising number; or the place of an End with no open bracket
 pub data Numbered : Type 0 where
   stray : ℕ → Numbered
   numbered : List ℕ → List ℕ → Numbered
@@ -96,6 +96,12 @@ abbrev pub others : List ℕ → List ℕ
 others [] = []
 others (zero ∷ bs) = bs
 others (suc b ∷ bs) = suc b ∷ bs
+
+-- the bodies of the Function marks, "in order of marks"; proofs/InOrder.antt shows that they are the functions' bodies in rising number
+abbrev pub ofMarks : List ℕ → List Op → List ℕ
+ofMarks [] os = []
+ofMarks (c ∷ cs) [] = []
+ofMarks (c ∷ cs) (o ∷ os) = cond (isFunction o) (c ∷ ofMarks cs os) (ofMarks cs os)
 
 abbrev pub laid : List Op → Numbered → Flat
 unfolding bodies gathered body

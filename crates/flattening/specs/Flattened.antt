@@ -4,9 +4,9 @@ use mathlib.Core.Bool.{Bool, cond, _||_}
 use mathlib.Core.List.{List, [], map}
 use lib.Dec.{ltb}
 use lib.ListN.{length}
-use Rattle.ops.specs.Op.{Op}
-use Rattle.ops.specs.Ops.{Patch, opsOf}
-use Rattle.ops.specs.Ops.Patch.{ops, refused}
+use Rattle.ops.specs.Syntax.{Op}
+use Rattle.ops.specs.Decode.{Patch, opsOf}
+use Rattle.ops.specs.Decode.Patch.{ops, refused}
 use Rattle.byte_fields.specs.Storage.{fill}
 use Rattle.ops.specs.Write.{encodeAll, marksIn}
 use Rattle.flattening.specs.Flatten.{Flat, flatten}
@@ -15,13 +15,13 @@ use Rattle.flattening.specs.declared.body.Body.{Body}
 use Rattle.answers.specs.declared.flatten.Flattened.{Flattened}
 use Rattle.answers.specs.declared.flatten.Flattened.the-variants.{BadFile, NoOpenEnd, NoRoom, Written}
 
--- the ops of a file; none of a bad one
-abbrev pub held : Patch → List Op
-held (ops os) = os
-held (refused n p) = []
+-- the ops of a good file; none of a bad one
+abbrev pub goodOps : Patch → List Op
+goodOps (ops os) = os
+goodOps (refused n p) = []
 
 unfoldable pub opsIn : List ℕ → List Op
-opsIn s = held (opsOf s)
+opsIn s = goodOps (opsOf s)
 
 -- "an entry of number, first op and op count"
 abbrev pub numberIn : Body → ℕ

@@ -6,7 +6,7 @@ use mathlib.Core.List.{List, [], _∷_, _++_}
 use mathlib.Core.Option.{Option, none, some}
 use lib.Dec.{eqb, ltb}
 use lib.ListN.{length}
-use Rattle.ops.specs.Op.{Op}
+use Rattle.ops.specs.Syntax.{Op}
 use Rattle.flattening.specs.Flatten.{Note, note, Flat}
 use Rattle.flattening.specs.Flatten.Note.{enters, opens, closes, stays}
 use Rattle.flattening.specs.Flatten.Flat.{loose, flat}
@@ -40,12 +40,12 @@ remove k (f ∷ fs) = cond (eqb k (f .0)) fs (f ∷ remove k fs)
 pub data Scopes : Type 0 where
   scopes : ℕ → ℕ → List (ℕ × ℕ) → List (ℕ × List Op) → List Op → Scopes
 
--- "If we are not defining a function, push the instruction to the main instructions": `scope_stack.is_empty()`
+-- the Rust says: 'If we are not defining a function, push the instruction to the main instructions', `scope_stack.is_empty()`
 abbrev pub outside : List (ℕ × ℕ) → Op → List Op → List Op
 outside [] o is = is ++ (o ∷ [])
 outside (q ∷ st) o is = is
 
--- "Start defining the next function. If that function is already defined, just go past the last function defined":
+-- the Rust says: 'Start defining the next function. If that function is already defined, just go past the last function defined',
 -- `fun += 1; if functions.contains_key(&fun) { fun = functions.len() as i32 }`
 unfoldable pub next : ℕ → List (ℕ × List Op) → ℕ
 unfolding contains
@@ -68,8 +68,8 @@ pub data Rust : Type 0 where
   panics : ℕ → Rust
   returns : List Op → List (ℕ × List Op) → List Op → Rust
 
--- "For every function, insert its body into the resulting output code", n numbers from i on, and then
--- "Insert the remaining code into the output code": main's body
+-- the Rust says: 'For every function, insert its body into the resulting output code', n numbers from i on, and then
+-- 'Insert the remaining code into the output code', main's body
 unfoldable pub insert : ℕ → ℕ → List Op → List (ℕ × List Op) → List Op
 unfolding bodyIn remove
 insert zero i result fs = result ++ bodyIn 0 fs

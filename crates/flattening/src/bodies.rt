@@ -3,15 +3,17 @@ ghost use mathlib.Core.Path.{_≡_};
 ghost use mathlib.Core.List.{_++_, map};
 ghost use Prim.Native.Nat.{ℕ, _+_, _≤_};
 ghost use lib.ListN.{length};
+ghost use Rattle.basics.specs.Limits.{mostOps};
 ghost use Rattle.ops.specs.Patch.{patchOf};
 ghost use Rattle.byte_fields.specs.Storage.{fill, placed};
 ghost use Rattle.ops.specs.Write.{encodeAll};
 ghost use Rattle.flattening.specs.Flatten.{body, gathered, bodies, others};
-ghost use Rattle.flattening.specs.Scope.{listed, partOf};
+ghost use Rattle.flattening.specs.Scope.{mostBodies, listed, partOf};
 ghost use Rattle.flattening.specs.Flattened.{opsIn, numberIn, firstIn, countIn};
-use crate::numbering::wide_number;
+use crate::numbering::Numbering;
+use basics::wide::wide_byte;
+use basics::wide::wide_short;
 use byte_fields::read::u32_at;
-use byte_fields::read::wide;
 use byte_fields::write::copy_bytes;
 
 // The byte after the records that were copied, and how many they are.
@@ -43,7 +45,7 @@ pub fn copy_body(bytes: &[u8], owner: &[u16], number: usize, out: &mut [u8], at:
     let mut i: usize = 0;
     while i < owner.len() {
         let size = u32_at(bytes, from) + 4;
-        let mine = wide_number(owner[i]);
+        let mine = wide_short(owner[i]);
         let n = part_of(number, mine, size);
         copy_bytes(out, next, bytes, from, n);
         next += n;
@@ -64,8 +66,8 @@ pub fn write_bodies(
     firsts: &mut [u32],
     counts: &mut [u32],
 ) -> usize
-    requires { ⌜ (patchOf (now bytes) .number ≡ 0) × ((length (now owner) ≡ length (opsIn (now bytes))) × (length (now seen) ≡ 4097)) ⌝ }
-    requires { ⌜ (length (gathered (others (listed 0 (now seen))) (now owner) (opsIn (now bytes))) ≤ 4096) × (length (encodeAll (gathered (others (listed 0 (now seen))) (now owner) (opsIn (now bytes)) ++ body 0 (now owner) (opsIn (now bytes)))) ≤ length (now out)) ⌝ }
+    requires { ⌜ (patchOf (now bytes) .number ≡ 0) × ((length (now owner) ≡ length (opsIn (now bytes))) × (length (now seen) ≡ mostBodies)) ⌝ }
+    requires { ⌜ (length (gathered (others (listed 0 (now seen))) (now owner) (opsIn (now bytes))) ≤ mostOps) × (length (encodeAll (gathered (others (listed 0 (now seen))) (now owner) (opsIn (now bytes)) ++ body 0 (now owner) (opsIn (now bytes)))) ≤ length (now out)) ⌝ }
     requires { ⌜ (length (others (listed 0 (now seen))) ≤ length (now numbers)) × ((length (others (listed 0 (now seen))) ≤ length (now firsts)) × (length (others (listed 0 (now seen))) ≤ length (now counts))) ⌝ }
     ensures { λ r. ⌜ r ≡ length (others (listed 0 (now (seen .entry)))) ⌝ }
     ensures { λ r. ⌜ now (out .exit) ≡ fill (encodeAll (gathered (others (listed 0 (now (seen .entry)))) (now (owner .entry)) (opsIn (now (bytes .entry))) ++ body 0 (now (owner .entry)) (opsIn (now (bytes .entry))))) (now (out .entry)) ⌝ }
@@ -77,8 +79,8 @@ pub fn write_bodies(
     let mut first: usize = 0;
     let mut n: usize = 0;
     let mut b: usize = 1;
-    while b < 4097 {
-        if wide(seen[b]) == 0 {
+    while b < Numbering::BODIES {
+        if wide_byte(seen[b]) == 0 {
             b += 1;
             continue;
         }

@@ -2,6 +2,7 @@
 ghost use mathlib.Core.Path.{_≡_};
 ghost use Prim.Native.Nat.{_<_, _≤_};
 ghost use lib.ListN.{length, take, replicate};
+ghost use Rattle.basics.specs.Limits.{mostMarks};
 ghost use Rattle.answers.specs.Flatten.{bodiesOf};
 ghost use Rattle.flattening.specs.Flattened.{outcome, flattenOf};
 ghost use Rattle.flattening.specs.Entries.{listing, flattenTo, roomOf, entryAt, entriesIn, over};
@@ -9,34 +10,34 @@ use crate::body::Body;
 use crate::numbers::flatten_numbers;
 use answers::flatten::Flattened;
 use answers::flatten::bodies_of;
-use ops::limits::MARKS;
+use patch_reader::reader::Read;
 
 // The answer, how many entries there are, and their numbers, first ops and op counts.
 pub struct Columns {
-    pub numbers: [u32; 256],
-    pub firsts: [u32; 256],
-    pub counts: [u32; 256],
+    pub numbers: [u32; Read::MARKS],
+    pub firsts: [u32; Read::MARKS],
+    pub counts: [u32; Read::MARKS],
     pub rows: usize,
     pub answer: Flattened,
 }
 
-// The room that counts: a patch has at most 256 marks.
+// The room that counts: a patch has at most `Read::MARKS` marks.
 fn room_of(n: usize) -> usize
-    ensures { λ r. ⌜ (r ≡ roomOf n) × (r ≤ 256) ⌝ }
+    ensures { λ r. ⌜ (r ≡ roomOf n) × (r ≤ mostMarks) ⌝ }
 {
-    if n < MARKS {
+    if n < Read::MARKS {
         return n;
     }
-    MARKS
+    Read::MARKS
 }
 
 // The work, for a list with room for this many entries.
 fn flatten_columns(bytes: &[u8], out: &mut [u8], room: usize) -> Columns
     ensures { λ r. ⌜ (outcome (r .answer) (now (out .exit)) (take (roomOf room) (r .numbers)) (take (roomOf room) (r .firsts)) (take (roomOf room) (r .counts)) ≡ flattenOf (now (bytes .entry)) (now (out .entry)) (replicate (roomOf room) 0) (replicate (roomOf room) 0) (replicate (roomOf room) 0)) × (r .rows ≡ bodiesOf (r .answer)) ⌝ }
 {
-    let mut numbers = [0u32; 256];
-    let mut firsts = [0u32; 256];
-    let mut counts = [0u32; 256];
+    let mut numbers = [0u32; Read::MARKS];
+    let mut firsts = [0u32; Read::MARKS];
+    let mut counts = [0u32; Read::MARKS];
     let n = room_of(room);
     let answer = flatten_numbers(
         bytes,
@@ -56,7 +57,7 @@ fn flatten_columns(bytes: &[u8], out: &mut [u8], room: usize) -> Columns
 }
 
 fn body_at(columns: Columns, i: usize) -> Body
-    requires { ⌜ i < 256 ⌝ }
+    requires { ⌜ i < mostMarks ⌝ }
     ensures { λ r. ⌜ r ≡ entryAt columns i ⌝ }
 {
     Body {
@@ -80,7 +81,7 @@ fn answer_of(columns: Columns) -> Flattened
 
 // By hand: the first n entries, to the list.
 fn write_entries<'a>(bodies: &'a mut [Body], columns: Columns, n: usize)
-    requires { ⌜ (n ≤ length (now bodies)) × (n ≤ 256) ⌝ }
+    requires { ⌜ (n ≤ length (now bodies)) × (n ≤ mostMarks) ⌝ }
     ensures { λ _. ⌜ now (bodies .exit) ≡ over (entriesIn columns n) (now (bodies .entry)) ⌝ }
 {
     let mut i = 0;

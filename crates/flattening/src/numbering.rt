@@ -3,9 +3,13 @@ ghost use mathlib.Core.Path.{_≡_};
 ghost use mathlib.Core.List.{[]};
 ghost use Prim.Native.Nat.{ℕ, _≤_, _<_};
 ghost use lib.ListN.{length, take, replicate};
+ghost use Rattle.basics.specs.Limits.{mostOps};
 ghost use Rattle.flattening.specs.Flatten.{number};
-ghost use Rattle.flattening.specs.Scope.{leavingOf, hereOf, newOf, openAfter, bodyAfter, rowNotes, listed, told};
-use byte_fields::read::wide;
+ghost use Rattle.flattening.specs.Scope.{leavingOf, hereOf, newOf, openAfter, bodyAfter, rowNotes, mostBodies, listed, told};
+use basics::wide::wide_byte;
+use basics::wide::wide_short;
+use kind_table::bracket;
+use patch_reader::reader::Read;
 use patch_reader::reader::mark_of;
 
 // Every op has its body, or this op is an End with no open bracket.
@@ -14,18 +18,16 @@ pub enum Numbering {
     Done,
 }
 
-// A body's number as it is stored.
-pub fn wide_number(n: u16) -> usize
-    ensures { λ r. ⌜ r ≡ n ⌝ }
-{
-    n as usize
+// Main's body, and one for each op at most.
+impl Numbering {
+    pub const BODIES: usize = Read::OPS + 1;
 }
 
 // 1 where an op of row k is an End that closes the body: none of the body's own brackets is open.
 pub fn leaving_of(k: usize, brackets: usize) -> usize
     ensures { λ r. ⌜ (r ≡ leavingOf k brackets) × (r ≤ 1) ⌝ }
 {
-    if k == 8 {
+    if k == bracket::END {
         if brackets == 0 {
             return 1;
         }
@@ -36,10 +38,10 @@ pub fn leaving_of(k: usize, brackets: usize) -> usize
 
 // The body that an op of row k is in. A Function mark starts one: one after the enclosing number, or, if that is taken, the count of bodies so far.
 pub fn here_of(k: usize, body: usize, taken: usize, count: usize) -> usize
-    requires { ⌜ (body < 4096) × (count < 4096) ⌝ }
-    ensures { λ r. ⌜ (r ≡ hereOf k body taken count) × (r ≤ 4096) ⌝ }
+    requires { ⌜ (body < mostOps) × (count < mostOps) ⌝ }
+    ensures { λ r. ⌜ (r ≡ hereOf k body taken count) × (r ≤ mostOps) ⌝ }
 {
-    if k == 2 {
+    if k == bracket::FUNCTION {
         if taken == 0 {
             return body + 1;
         }
@@ -60,19 +62,19 @@ pub fn new_of(seen: usize) -> usize
 
 // The brackets open after an op of row k in the body that goes on: `outer` are those of the body around.
 pub fn open_after(k: usize, brackets: usize, outer: usize) -> usize
-    requires { ⌜ brackets ≤ 4096 ⌝ }
+    requires { ⌜ brackets ≤ mostOps ⌝ }
     ensures { λ r. ⌜ r ≡ openAfter k brackets outer ⌝ }
 {
-    if k == 2 {
+    if k == bracket::FUNCTION {
         return 0;
     }
-    if k == 5 {
+    if k == bracket::WHILE {
         return brackets + 1;
     }
-    if k == 6 {
+    if k == bracket::IF {
         return brackets + 1;
     }
-    if k == 8 {
+    if k == bracket::END {
         if brackets == 0 {
             return outer;
         }
@@ -92,35 +94,39 @@ pub fn body_after(leaving: usize, here: usize, outer: usize) -> usize
 }
 
 // The body of each op, and a flag for each body that has an op. An op makes at most one body, so no number is above the op count.
-pub fn number_ops(kinds: &[u8], owner: &mut [u16; 4096], seen: &mut [u8; 4097]) -> Numbering
-    requires { ⌜ (length (now kinds) ≤ 4096) × ((length (now owner) ≡ 4096) × (now seen ≡ replicate 4097 0)) ⌝ }
-    ensures { λ r. ⌜ told r (take (length (now (kinds .entry))) (now (owner .exit))) (listed 0 (now (seen .exit))) ≡ number 0 0 0 [] [] (rowNotes (now (kinds .entry))) ⌝ }
-    ensures { λ r. ⌜ (length (now (owner .exit)) ≡ 4096) × (length (now (seen .exit)) ≡ 4097) ⌝ }
+pub fn number_ops(
+    rows: &[u8],
+    owner: &mut [u16; Read::OPS],
+    seen: &mut [u8; Numbering::BODIES],
+) -> Numbering
+    requires { ⌜ (length (now rows) ≤ mostOps) × ((length (now owner) ≡ mostOps) × (now seen ≡ replicate mostBodies 0)) ⌝ }
+    ensures { λ r. ⌜ told r (take (length (now (rows .entry))) (now (owner .exit))) (listed 0 (now (seen .exit))) ≡ number 0 0 0 [] [] (rowNotes (now (rows .entry))) ⌝ }
+    ensures { λ r. ⌜ (length (now (owner .exit)) ≡ mostOps) × (length (now (seen .exit)) ≡ mostBodies) ⌝ }
 {
     // what was left where each enclosing body was entered: its number and its open brackets
-    let mut around = [0u16; 4097];
-    let mut opens = [0u16; 4097];
+    let mut around = [0u16; Numbering::BODIES];
+    let mut opens = [0u16; Numbering::BODIES];
     let mut body: usize = 0;
     let mut brackets: usize = 0;
     let mut depth: usize = 0;
     let mut count: usize = 0;
     let mut i: usize = 0;
-    while i < kinds.len() {
-        let k = wide(kinds[i]);
+    while i < rows.len() {
+        let k = wide_byte(rows[i]);
         let leaving = leaving_of(k, brackets);
         if depth < leaving {
             return Numbering::NoOpenEnd(i);
         }
-        let taken = wide(seen[body + 1]);
+        let taken = wide_byte(seen[body + 1]);
         let here = here_of(k, body, taken, count);
-        count += new_of(wide(seen[here]));
+        count += new_of(wide_byte(seen[here]));
         owner[i] = here as u16;
         seen[here] = 1;
         around[depth] = body as u16;
         opens[depth] = brackets as u16;
         depth = depth + mark_of(k) - leaving;
-        body = body_after(leaving, here, wide_number(around[depth]));
-        brackets = open_after(k, brackets, wide_number(opens[depth]));
+        body = body_after(leaving, here, wide_short(around[depth]));
+        brackets = open_after(k, brackets, wide_short(opens[depth]));
         i += 1;
     }
     Numbering::Done

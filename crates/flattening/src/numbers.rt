@@ -6,18 +6,19 @@ use crate::bodies::write_bodies;
 use crate::numbering::Numbering;
 use crate::numbering::number_ops;
 use answers::flatten::Flattened;
-use byte_fields::read::wide;
+use basics::wide::wide_byte;
+use patch_reader::reader::Read;
 use patch_reader::reader::load;
 use patch_reader::reader::mark_of;
 
 // How many Function marks there are among ops of these rows.
-pub fn count_marks(kinds: &[u8]) -> usize
-    ensures { λ r. ⌜ r ≡ rowMarks (now (kinds .entry)) ⌝ }
+pub fn count_marks(rows: &[u8]) -> usize
+    ensures { λ r. ⌜ r ≡ rowMarks (now (rows .entry)) ⌝ }
 {
     let mut marks: usize = 0;
     let mut i: usize = 0;
-    while i < kinds.len() {
-        marks += mark_of(wide(kinds[i]));
+    while i < rows.len() {
+        marks += mark_of(wide_byte(rows[i]));
         i += 1;
     }
     marks
@@ -34,26 +35,27 @@ pub fn flatten_numbers(
 ) -> Flattened
     ensures { λ r. ⌜ outcome r (now (out .exit)) (now (numbers .exit)) (now (firsts .exit)) (now (counts .exit)) ≡ flattenOf (now (bytes .entry)) (now (out .entry)) (now (numbers .entry)) (now (firsts .entry)) (now (counts .entry)) ⌝ }
 {
-    let mut kinds = [0u8; 4096];
-    let mut lanes = [0u16; 4096];
-    let mut needs = [0u16; 4096];
-    let mut places = [0u32; 4096];
-    let read = load(bytes, &mut kinds, &mut lanes, &mut needs, &mut places);
+    let mut rows = [0u8; Read::OPS];
+    let mut lanes = [0u16; Read::OPS];
+    let mut needs = [0u16; Read::OPS];
+    let mut payloads = [0u32; Read::OPS];
+    let read = load(bytes, &mut rows, &mut lanes, &mut needs, &mut payloads);
     let number = read.number;
-    let place = read.place;
     if number != 0 {
+        let place = read.place;
         return Flattened::BadFile { number, place };
     }
-    let mut owner = [0u16; 4096];
-    let mut seen = [0u8; 4097];
-    let numbering = number_ops(&kinds[..place], &mut owner, &mut seen);
+    let n = read.ops;
+    let mut owner = [0u16; Read::OPS];
+    let mut seen = [0u8; Numbering::BODIES];
+    let numbering = number_ops(&rows[..n], &mut owner, &mut seen);
     if let Numbering::NoOpenEnd(op) = numbering {
         return Flattened::NoOpenEnd { op };
     }
     if out.len() < bytes.len() {
         return Flattened::NoRoom;
     }
-    let marks = count_marks(&kinds[..place]);
+    let marks = count_marks(&rows[..n]);
     if numbers.len() < marks {
         return Flattened::NoRoom;
     }
@@ -63,9 +65,9 @@ pub fn flatten_numbers(
     if counts.len() < marks {
         return Flattened::NoRoom;
     }
-    let bodies = write_bodies(bytes, &owner[..place], &seen, out, numbers, firsts, counts);
+    let bodies = write_bodies(bytes, &owner[..n], &seen, out, numbers, firsts, counts);
     Flattened::Written {
-        ops: place,
+        ops: n,
         bytes: bytes.len(),
         bodies,
     }

@@ -1,8 +1,8 @@
 pub mod Stacks
 pub mod Pushes
 pub mod Settled
-pub mod Seen
+pub mod StackIsOps
 pub mod Records
 pub mod Sizes
 pub mod Files
-pub mod Again
+pub mod JoinedIsAPatch

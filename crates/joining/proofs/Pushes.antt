@@ -7,11 +7,11 @@ use mathlib.Core.Bool.{Bool, true, false, cond, _&&_}
 use mathlib.Core.List.{List, [], _∷_, _++_, reverse, reverse-cons}
 use lib.Dec.{eqb}
 use borrow.Author.Tests.{eqb-true}
-use Rattle.ops.specs.Op.{Op, kindOf}
-use Rattle.ops.specs.Op.Plain.{move}
-use Rattle.ops.specs.Op.Op.{plain}
+use Rattle.basics.proofs.Clash.{clash}
+use Rattle.ops.specs.Syntax.{Op, kindOf}
+use Rattle.ops.specs.Syntax.Plain.{move}
+use Rattle.ops.specs.Syntax.Op.{plain}
 use Rattle.ops.specs.Write.{Each}
-use Rattle.ops.proofs.Clash.{clash}
 use Rattle.file_laws.proofs.Fitting.{each-append}
 use Rattle.joining.specs.Join.{Rule, both, alike, decided, tested, total, rule, moved, react, op, pushes, join}
 use Rattle.joining.specs.Join.Rule.{push, skip, pop, again, under, sum}

@@ -4,10 +4,10 @@ use mathlib.Core.Bool.{Bool, true, false, cond}
 use mathlib.Core.List.{List, [], _∷_, _++_, reverse, reverse-cons}
 use lib.Dec.{eqb}
 use borrow.Author.Tests.{eqb-true}
-use Rattle.ops.specs.Op.{Op, kindOf}
-use Rattle.ops.specs.Op.Plain.{move}
-use Rattle.ops.specs.Op.Op.{plain}
-use Rattle.ops.proofs.Clash.{clash}
+use Rattle.basics.proofs.Clash.{clash}
+use Rattle.ops.specs.Syntax.{Op, kindOf}
+use Rattle.ops.specs.Syntax.Plain.{move}
+use Rattle.ops.specs.Syntax.Op.{plain}
 use Rattle.joining.specs.Join.{Rule, total, rule, moved, react, op, pushes, join}
 use Rattle.joining.specs.Join.Rule.{push, pop, sum}
 use Rattle.joining.proofs.Pushes.{Ruled, ruled}

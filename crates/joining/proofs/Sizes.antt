@@ -8,10 +8,10 @@ use lib.Dec.{eqb}
 use lib.ListN.{length, length-append}
 use borrow.Author.Tests.{eqb-true}
 use Rattle.kind_table.specs.Kinds.{shape, kindAt, indexOf}
-use Rattle.ops.specs.Ops.{opCount}
-use Rattle.ops.specs.Op.{Op, Plain, kindOf, argOf, valuesOf}
-use Rattle.ops.specs.Op.Plain.{comment, store, move, swap, locate, offset, deref, refer, cell, lane, get, put, peek, poke, alloc, free}
-use Rattle.ops.specs.Op.Op.{control, set, load, plain}
+use Rattle.ops.specs.Decode.{opCount}
+use Rattle.ops.specs.Syntax.{Op, Plain, kindOf, argOf, valuesOf}
+use Rattle.ops.specs.Syntax.Plain.{comment, store, move, swap, locate, offset, deref, refer, cell, lane, get, put, peek, poke, alloc, free}
+use Rattle.ops.specs.Syntax.Op.{control, set, load, plain}
 use Rattle.byte_fields.specs.Bytes.{le16, le32, le64}
 use Rattle.ops.specs.Write.{valueBytes, payloadOf, encode, encodeAll}
 use Rattle.file_laws.proofs.Encoded.{known, length-bytes}

@@ -11,7 +11,7 @@ use borrow.Author.Tests.{eq-eqb, ne-eqb}
 use Rattle.lanes.specs.Int.{intAdd}
 use Rattle.joining.specs.declared.stack.Met.{Met}
 use Rattle.joining.specs.declared.stack.Met.the-variants.{Push, Skip, Under}
-use Rattle.joining.specs.Stack.{Entry, entry, meet, met, movedOn, reactOn, pushOn, stack}
+use Rattle.joining.specs.Stack.{Entry, entry, met, movedOn, reactOn, pushOn, stack}
 
 -- stores beyond the stack
 stack-set : (is vs : List ℕ) (j a v n : ℕ) → n ≤ j → stack (set is j a) (set vs j v) n ≡ stack is vs n
@@ -32,60 +32,43 @@ positive : (n : ℕ) → (n ≡ 0 → ⊥) → 0 < n
 positive zero h = absurd (h refl)
 positive (suc n) h = omega arith
 
-module _ (ks is vs : List ℕ) (n i v : ℕ) where
-  abbrev last : ℕ
-  last = getD is (n - 1) 0
+-- ---- the ways of the push of a move
 
-  abbrev value : ℕ
-  value = getD vs (n - 1) 0
+-- op i with the value v is pushed where there is a last entry, whose op is of kind k
+pub record Last (ks is vs : List ℕ) (n i v k : ℕ) : Type 0 where
+  pub some : n ≡ 0 → ⊥
+  pub kind : k ≡ getD ks (getD is (n - 1) 0) 0
 
-  -- ---- the ways of the push of a move
+module _ {ks is vs : List ℕ} {n i v k : ℕ} (l : Last ks is vs n i v k) {st : List Entry} where
+  pub moved-other : (k ≡ 11 → ⊥) → st ≡ entry i v ∷ stack is vs n → st ≡ movedOn ks (stack is vs n) (entry i v)
+  moved-other h e = e ∙ simp (top is vs n (positive n (l .some)), ← (l .kind), ne-eqb k 11 h)
 
-  pub moved-none : n ≡ 0 → entry i v ∷ stack is vs n ≡ movedOn ks (stack is vs n) (entry i v)
-  moved-none e = simp e
+  module _ {s : ℕ} (h : k ≡ 11) (q : s ≡ intAdd (getD vs (n - 1) 0) v) where
+    pub moved-gone : s ≡ 0 → st ≡ stack is vs (n - 1) → st ≡ movedOn ks (stack is vs n) (entry i v)
+    moved-gone z e = e ∙ simp (top is vs n (positive n (l .some)), ← (l .kind), eq-eqb k 11 h, ← q, eq-eqb s 0 z)
 
-  module _ (k : ℕ) (kind : k ≡ getD ks last 0) where
-    pub moved-other : (n ≡ 0 → ⊥) → (k ≡ 11 → ⊥) → entry i v ∷ stack is vs n ≡ movedOn ks (stack is vs n) (entry i v)
-    moved-other p h = simp (top is vs n (positive n p), ← kind, ne-eqb k 11 h)
+    pub moved-sum : (s ≡ 0 → ⊥) → st ≡ entry (getD is (n - 1) 0) s ∷ stack is vs (n - 1) → st ≡ movedOn ks (stack is vs n) (entry i v)
+    moved-sum z e = e ∙ simp (top is vs n (positive n (l .some)), ← (l .kind), eq-eqb k 11 h, ← q, ne-eqb s 0 z)
 
-    module _ (s : ℕ) (is-sum : s ≡ intAdd value v) where
-      pub moved-gone : (n ≡ 0 → ⊥) → k ≡ 11 → s ≡ 0 → stack is vs (n - 1) ≡ movedOn ks (stack is vs n) (entry i v)
-      moved-gone p h z = simp (top is vs n (positive n p), ← kind, eq-eqb k 11 h, ← is-sum, eq-eqb s 0 z)
+-- ---- the ways of a push
 
-      pub moved-sum : (n ≡ 0 → ⊥) → k ≡ 11 → (s ≡ 0 → ⊥) → entry last s ∷ stack is vs (n - 1) ≡ movedOn ks (stack is vs n) (entry i v)
-      moved-sum p h z = simp (top is vs n (positive n p), ← kind, eq-eqb k 11 h, ← is-sum, ne-eqb s 0 z)
+-- op i with the value v is pushed where there is a last entry: m is what the two make of each other
+pub record Meets (ks ns is vs : List ℕ) (n i v : ℕ) (m : Met) : Type 0 where
+  pub some : n ≡ 0 → ⊥
+  pub told : m ≡ met ks ns (entry (getD is (n - 1) 0) (getD vs (n - 1) 0)) (entry i v)
 
-  -- ---- the ways of a push
+module _ {ks ns is vs : List ℕ} {n i v : ℕ} {st : List Entry} where
+  pub push-arm : {m : Met} → Meets ks ns is vs n i v m
+      → st ≡ reactOn ks m (entry (getD is (n - 1) 0) (getD vs (n - 1) 0)) (stack is vs (n - 1)) (entry i v) (pushOn ks ns (stack is vs (n - 1)))
+      → st ≡ pushOn ks ns (stack is vs n) (entry i v)
+  push-arm g e = e ∙ rw (g .told) (sym (ap (λ (l : List Entry). pushOn ks ns l (entry i v)) (top is vs n (positive n (g .some)))))
 
-  module _ (ns : List ℕ) where
-    pub push-none : n ≡ 0 → entry i v ∷ stack is vs n ≡ pushOn ks ns (stack is vs n) (entry i v)
-    push-none e = simp e
+  pub push-new : Meets ks ns is vs n i v Push → st ≡ entry i v ∷ stack is vs n → st ≡ pushOn ks ns (stack is vs n) (entry i v)
+  push-new g e = push-arm g (e ∙ ap (λ (l : List Entry). entry i v ∷ l) (top is vs n (positive n (g .some))))
 
-    module _ (m : Met) (told : m ≡ met ks ns (entry last value) (entry i v)) (p : n ≡ 0 → ⊥) where
-      pub push-arm : reactOn ks m (entry last value) (stack is vs (n - 1)) (entry i v) (pushOn ks ns (stack is vs (n - 1))) ≡ pushOn ks ns (stack is vs n) (entry i v)
-      push-arm =
-          ap (λ (a : Met). reactOn ks a (entry last value) (stack is vs (n - 1)) (entry i v) (pushOn ks ns (stack is vs (n - 1)))) told
-          ∙ sym (ap (λ (st : List Entry). pushOn ks ns st (entry i v)) (top is vs n (positive n p)))
+  pub push-skip : Meets ks ns is vs n i v Skip → st ≡ stack is vs n → st ≡ pushOn ks ns (stack is vs n) (entry i v)
+  push-skip g e = push-arm g (e ∙ top is vs n (positive n (g .some)))
 
-      pub push-new : m ≡ Push → entry i v ∷ stack is vs n ≡ pushOn ks ns (stack is vs n) (entry i v)
-      push-new e =
-          ap (λ (st : List Entry). entry i v ∷ st) (top is vs n (positive n p))
-          ∙ ap (λ (a : Met). reactOn ks a (entry last value) (stack is vs (n - 1)) (entry i v) (pushOn ks ns (stack is vs (n - 1)))) (sym e)
-          ∙ push-arm
-
-      pub push-skip : m ≡ Skip → stack is vs n ≡ pushOn ks ns (stack is vs n) (entry i v)
-      push-skip e =
-          top is vs n (positive n p)
-          ∙ ap (λ (a : Met). reactOn ks a (entry last value) (stack is vs (n - 1)) (entry i v) (pushOn ks ns (stack is vs (n - 1)))) (sym e)
-          ∙ push-arm
-
-      pub push-under : m ≡ Under → (st : List Entry) → st ≡ pushOn ks ns (stack is vs (n - 1)) (entry i v) → movedOn ks st (entry last value) ≡ pushOn ks ns (stack is vs n) (entry i v)
-      push-under e st q =
-          ap (λ (l : List Entry). movedOn ks l (entry last value)) q
-          ∙ ap (λ (a : Met). reactOn ks a (entry last value) (stack is vs (n - 1)) (entry i v) (pushOn ks ns (stack is vs (n - 1)))) (sym e)
-          ∙ push-arm
-
--- what the code was told of the two ops
-pub told-met : (a b c d yk yn yv xk xn xv : ℕ) (m r : Met) → yk ≡ a → yn ≡ b → xk ≡ c → xn ≡ d → r ≡ m → r ≡ meet yk yn yv xk xn xv
-    → m ≡ meet a b yv c d xv
-told-met a b c d yk yn yv xk xn xv m r e f g h q w = cc (e, f, g, h, q, w)
+  pub push-under : Meets ks ns is vs n i v Under → {l : List Entry} → l ≡ pushOn ks ns (stack is vs (n - 1)) (entry i v)
+      → st ≡ movedOn ks l (entry (getD is (n - 1) 0) (getD vs (n - 1) 0)) → st ≡ pushOn ks ns (stack is vs n) (entry i v)
+  push-under g q e = push-arm g (e ∙ ap (λ (l : List Entry). movedOn ks l (entry (getD is (n - 1) 0) (getD vs (n - 1) 0))) q)

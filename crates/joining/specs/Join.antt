@@ -5,11 +5,12 @@ use mathlib.Core.Bool.{Bool, cond, _&&_}
 use mathlib.Core.List.{List, [], _∷_, reverse}
 use lib.Dec.{eqb}
 use lib.ListN.{length, getD}
+use Rattle.kind_table.specs.Rows as row
 use Rattle.lanes.specs.Int.{intAdd, intGez}
-use Rattle.ops.specs.Op.{Op, kindOf, argOf, valuesOf}
-use Rattle.ops.specs.Op.Plain.{move}
-use Rattle.ops.specs.Op.Sort.{ints}
-use Rattle.ops.specs.Op.Op.{set, plain}
+use Rattle.ops.specs.Syntax.{Op, kindOf, argOf, valuesOf}
+use Rattle.ops.specs.Syntax.Plain.{move}
+use Rattle.ops.specs.Syntax.Sort.{ints}
+use Rattle.ops.specs.Syntax.Op.{set, plain}
 
 -- what the last op and the new one make of each other: the new one is pushed, or left out; the last one is popped, then nothing is pushed,
 -- another op is pushed on what is left, the new one is pushed on what is left and the last one after it, or a move by n stands for both
@@ -19,7 +20,7 @@ pub data Rule : Type 0 where
   under : Rule
   sum : ℕ → Rule
 
--- the last op is of kind a, the new one of kind b
+-- the last op is of kind a, the new one of kind b: of core kinds, which have their row's number
 abbrev pub both : ℕ → ℕ → Op → Op → Bool
 both a b last new = eqb (kindOf new) b && eqb (kindOf last) a
 
@@ -27,44 +28,13 @@ both a b last new = eqb (kindOf new) b && eqb (kindOf last) a
 abbrev pub alike : ℕ → ℕ → Op → Op → Bool
 alike a b last new = both a b last new && eqb (argOf last) (argOf new)
 
--- the kinds as the file numbers them
-abbrev pub Set : ℕ
-Set = 1
-
-abbrev pub Else : ℕ
-Else = 7
-
-abbrev pub End : ℕ
-End = 8
-
-abbrev pub Store : ℕ
-Store = 9
-
-abbrev pub Load : ℕ
-Load = 10
-
-abbrev pub Move : ℕ
-Move = 11
-
-abbrev pub Deref : ℕ
-Deref = 13
-
-abbrev pub Refer : ℕ
-Refer = 14
-
-abbrev pub Offset : ℕ
-Offset = 16
-
-abbrev pub IsNonNegative : ℕ
-IsNonNegative = 37
-
--- two moves: "`n + m` of two moves wraps"; nothing is left where it is 0
+-- two moves: their sum, which wraps; nothing is left where it is 0
 abbrev pub total : Op → Op → ℕ
 total last new = intAdd (argOf last) (argOf new)
 
--- gez at a set: "only a core Set of exactly one value, with n = 1"
+-- gez at a set: only a core Set of exactly one value, and a gez of one lane
 abbrev pub decided : Op → Op → Bool
-decided last new = both Set IsNonNegative last new && eqb (argOf new) 1 && eqb (length (valuesOf last)) 1
+decided last new = both row.set row.isNonNegative last new && eqb (argOf new) 1 && eqb (length (valuesOf last)) 1
 
 abbrev pub tested : Op → Op
 tested last = set ints (intGez (getD (valuesOf last) 0 0) ∷ [])
@@ -72,17 +42,17 @@ tested last = set ints (intGez (getD (valuesOf last) 0 0) ∷ [])
 -- the arms of `op`, in their order. A standard op is of no kind that is named here: it is pushed, and it stops joining
 unfoldable pub rule : Op → Op → Rule
 rule last new =
-    cond (both Move Move last new) (cond (eqb (total last new) 0) pop (sum (total last new)))
-    (cond (both Set Set last new) (again new)
-    (cond (both Deref Refer last new) pop
-    (cond (both Else End last new) (again new)
-    (cond (both Move Refer last new) (again new)
-    (cond (both Move Set last new) under
-    (cond (both Move Offset last new) under
-    (cond (alike Store Store last new) skip
-    (cond (alike Load Load last new) skip
-    (cond (alike Store Load last new) skip
-    (cond (alike Load Store last new) skip
+    cond (both row.move row.move last new) (cond (eqb (total last new) 0) pop (sum (total last new)))
+    (cond (both row.set row.set last new) (again new)
+    (cond (both row.deref row.refer last new) pop
+    (cond (both row.else row.end last new) (again new)
+    (cond (both row.move row.refer last new) (again new)
+    (cond (both row.move row.set last new) under
+    (cond (both row.move row.offset last new) under
+    (cond (alike row.store row.store last new) skip
+    (cond (alike row.load row.load last new) skip
+    (cond (alike row.store row.load last new) skip
+    (cond (alike row.load row.store last new) skip
     (cond (decided last new) (again (tested last))
     push)))))))))))
 
@@ -90,7 +60,7 @@ rule last new =
 unfoldable pub moved : List Op → Op → List Op
 moved [] new = new ∷ []
 moved (last ∷ st) new =
-    cond (eqb (kindOf last) Move) (cond (eqb (total last new) 0) st (plain (move (total last new)) ∷ st)) (new ∷ last ∷ st)
+    cond (eqb (kindOf last) row.move) (cond (eqb (total last new) 0) st (plain (move (total last new)) ∷ st)) (new ∷ last ∷ st)
 
 -- what is done, where f pushes on what is left of the list
 abbrev pub react : Rule → Op → List Op → Op → (Op → List Op) → List Op

@@ -5,9 +5,9 @@ use mathlib.Core.List.{List}
 use lib.Dec.{ltb}
 use lib.ListN.{length}
 use Rattle.byte_fields.specs.Storage.{fill}
-use Rattle.ops.specs.Ops.{Patch, opsOf}
-use Rattle.ops.specs.Ops.Patch.{ops, refused}
-use Rattle.ops.specs.Op.{Op}
+use Rattle.ops.specs.Decode.{Patch, opsOf}
+use Rattle.ops.specs.Decode.Patch.{ops, refused}
+use Rattle.ops.specs.Syntax.{Op}
 use Rattle.ops.specs.Write.{encodeAll}
 use Rattle.joining.specs.Join.{join}
 use Rattle.answers.specs.declared.join.Joined.{Joined}

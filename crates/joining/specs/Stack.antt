@@ -5,15 +5,16 @@ use mathlib.Core.Bool.{Bool, true, false, cond}
 use mathlib.Core.List.{List, [], _∷_, map, reverse}
 use lib.Dec.{eqb}
 use lib.ListN.{length, getD}
+use Rattle.kind_table.specs.Rows as row
 use Rattle.lanes.specs.Int.{intAdd, intGez}
 use Rattle.byte_fields.specs.Bytes.{u64At}
 use Rattle.ops.specs.Patch.{Item, item, patchOf}
-use Rattle.ops.specs.Ops.{opAt}
-use Rattle.ops.specs.Op.{Op}
+use Rattle.ops.specs.Decode.{opAt}
+use Rattle.ops.specs.Syntax.{Op}
 use Rattle.ops.specs.Write.{encodeAll}
-use Rattle.ops.specs.Op.Plain.{move}
-use Rattle.ops.specs.Op.Sort.{ints}
-use Rattle.ops.specs.Op.Op.{set, plain}
+use Rattle.ops.specs.Syntax.Plain.{move}
+use Rattle.ops.specs.Syntax.Sort.{ints}
+use Rattle.ops.specs.Syntax.Op.{set, plain}
 use Rattle.joining.specs.declared.stack.Met.{Met}
 use Rattle.joining.specs.declared.stack.Met.the-variants.{Push, Skip, Pop, Again, Test, Under, Sum}
 
@@ -27,35 +28,35 @@ pub record Entry : Type 0 where
 abbrev pub entry : ℕ → ℕ → Entry
 entry i v = record { op = i; value = v }
 
--- whether an op of kind k that counts n has a value of its own
+-- whether an op of row k that counts n has a value of its own
 unfoldable pub valued : ℕ → ℕ → Bool
-valued k n = cond (eqb k 11) true (cond (eqb k 1) (eqb n 1) false)
+valued k n = cond (eqb k row.move) true (cond (eqb k row.set) (eqb n 1) false)
 
 -- the value that it has in the file s, at byte p
 unfoldable pub valueOf : List ℕ → ℕ → ℕ → ℕ → ℕ
 valueOf s k n p = cond (valued k n) (u64At s p) 0
 
--- ---- the push of an entry, where ks and ns have the file's kinds and counts
+-- ---- the push of an entry, where ks and ns have the file's rows and counts
 
 -- two cell ops: the second of the same count does nothing more
 unfoldable pub cells : ℕ → ℕ → ℕ → Met
-cells yk yn xn = cond (eqb yn xn) (cond (eqb yk 9) Skip (cond (eqb yk 10) Skip Push)) Push
+cells yk yn xn = cond (eqb yn xn) (cond (eqb yk row.store) Skip (cond (eqb yk row.load) Skip Push)) Push
 
 -- gez after a set
 unfoldable pub tests : ℕ → ℕ → ℕ → ℕ → Met
-tests yk yn yv xn = cond (eqb xn 1) (cond (eqb yk 1) (cond (eqb yn 1) (Test (intGez yv)) Push) Push) Push
+tests yk yn yv xn = cond (eqb xn 1) (cond (eqb yk row.set) (cond (eqb yn 1) (Test (intGez yv)) Push) Push) Push
 
--- what the last op y and the new one x make of each other, by kind, count and value
+-- what the last op y and the new one x make of each other, by row, count and value
 unfoldable pub meet : ℕ → ℕ → ℕ → ℕ → ℕ → ℕ → Met
 meet yk yn yv xk xn xv =
-    cond (eqb xk 11) (cond (eqb yk 11) (cond (eqb (intAdd yv xv) 0) Pop (Sum (intAdd yv xv))) Push)
-    (cond (eqb xk 1) (cond (eqb yk 1) Again (cond (eqb yk 11) Under Push))
-    (cond (eqb xk 14) (cond (eqb yk 13) Pop (cond (eqb yk 11) Again Push))
-    (cond (eqb xk 8) (cond (eqb yk 7) Again Push)
-    (cond (eqb xk 16) (cond (eqb yk 11) Under Push)
-    (cond (eqb xk 9) (cells yk yn xn)
-    (cond (eqb xk 10) (cells yk yn xn)
-    (cond (eqb xk 37) (tests yk yn yv xn) Push)))))))
+    cond (eqb xk row.move) (cond (eqb yk row.move) (cond (eqb (intAdd yv xv) 0) Pop (Sum (intAdd yv xv))) Push)
+    (cond (eqb xk row.set) (cond (eqb yk row.set) Again (cond (eqb yk row.move) Under Push))
+    (cond (eqb xk row.refer) (cond (eqb yk row.deref) Pop (cond (eqb yk row.move) Again Push))
+    (cond (eqb xk row.end) (cond (eqb yk row.else) Again Push)
+    (cond (eqb xk row.offset) (cond (eqb yk row.move) Under Push)
+    (cond (eqb xk row.store) (cells yk yn xn)
+    (cond (eqb xk row.load) (cells yk yn xn)
+    (cond (eqb xk row.isNonNegative) (tests yk yn yv xn) Push)))))))
 
 abbrev pub met : List ℕ → List ℕ → Entry → Entry → Met
 met ks ns y x = meet (getD ks (y .op) 0) (getD ns (y .op) 0) (y .value) (getD ks (x .op) 0) (getD ns (x .op) 0) (x .value)
@@ -64,7 +65,7 @@ met ks ns y x = meet (getD ks (y .op) 0) (getD ns (y .op) 0) (y .value) (getD ks
 abbrev pub movedOn : List ℕ → List Entry → Entry → List Entry
 movedOn ks [] m = m ∷ []
 movedOn ks (y ∷ st) m =
-    cond (eqb (getD ks (y .op) 0) 11)
+    cond (eqb (getD ks (y .op) 0) row.move)
     (cond (eqb (intAdd (y .value) (m .value)) 0) st (entry (y .op) (intAdd (y .value) (m .value)) ∷ st))
     (m ∷ y ∷ st)
 
@@ -94,13 +95,13 @@ itemAt s i = getD (patchOf s .items) i (item 0 0 0)
 -- the arrays hold the rows, counts and places of the n ops of s
 pub record Holds (s ks ns ps : List ℕ) (n : ℕ) : Type 0 where
   pub many : n ≡ length (patchOf s .items)
-  pub kinds : (i : ℕ) → i < n → getD ks i 0 ≡ itemAt s i .kind
+  pub rows : (i : ℕ) → i < n → getD ks i 0 ≡ itemAt s i .row
   pub counts : (i : ℕ) → i < n → getD ns i 0 ≡ itemAt s i .count
-  pub places : (i : ℕ) → i < n → getD ps i 0 ≡ itemAt s i .place
+  pub payloads : (i : ℕ) → i < n → getD ps i 0 ≡ itemAt s i .payload
 
 -- the entry of the op i of s
 abbrev pub entryAt : List ℕ → ℕ → Entry
-entryAt s i = entry i (valueOf s (itemAt s i .kind) (itemAt s i .count) (itemAt s i .place))
+entryAt s i = entry i (valueOf s (itemAt s i .row) (itemAt s i .count) (itemAt s i .payload))
 
 -- the stack after the first i ops of s
 abbrev pub after : List ℕ → List ℕ → List ℕ → ℕ → List Entry
@@ -109,7 +110,7 @@ after s ks ns (suc i) = pushOn ks ns (after s ks ns i) (entryAt s i)
 
 -- the op that an item stands for where its own value, if it has one, is v
 abbrev pub opWithin : List ℕ → Item → ℕ → Op
-opWithin s i v = cond (eqb (i .kind) 11) (plain (move v)) (cond (eqb (i .kind) 1) (cond (eqb (i .count) 1) (set ints (v ∷ [])) (opAt s i)) (opAt s i))
+opWithin s i v = cond (eqb (i .row) row.move) (plain (move v)) (cond (eqb (i .row) row.set) (cond (eqb (i .count) 1) (set ints (v ∷ [])) (opAt s i)) (opAt s i))
 
 -- the op that an entry stands for
 abbrev pub opOf : List ℕ → Entry → Op

@@ -6,6 +6,7 @@ ghost use Prim.Native.Nat.{ℕ, _+_, _<_, _≤_};
 ghost use lib.ListN.{length, getD};
 ghost use Rattle.lanes.specs.Int.{intAdd};
 ghost use Rattle.joining.specs.Stack.{cells, tests, meet, entry, stack, movedOn, pushOn};
+use kind_table::row;
 use lanes::lane::CellOp;
 use lanes::lane::LaneOp;
 use lanes::lane::cell_rule;
@@ -37,10 +38,10 @@ pub fn cell(yk: u8, yn: u16, xn: u16) -> Met
     if yn != xn {
         return Met::Push;
     }
-    if yk == 9 {
+    if yk == row::STORE {
         return Met::Skip;
     }
-    if yk == 10 {
+    if yk == row::LOAD {
         return Met::Skip;
     }
     Met::Push
@@ -53,7 +54,7 @@ pub fn test(yk: u8, yn: u16, yv: u64, xn: u16) -> Met
     if xn != 1 {
         return Met::Push;
     }
-    if yk != 1 {
+    if yk != row::SET {
         return Met::Push;
     }
     if yn != 1 {
@@ -63,12 +64,12 @@ pub fn test(yk: u8, yn: u16, yv: u64, xn: u16) -> Met
     Met::Test(v)
 }
 
-// By kind, count and value of the last op and of the new one.
+// By row, count and value of the last op and of the new one.
 pub fn meets(yk: u8, yn: u16, yv: u64, xk: u8, xn: u16, xv: u64) -> Met
     ensures { λ r. ⌜ r ≡ meet yk yn yv xk xn xv ⌝ }
 {
-    if xk == 11 {
-        if yk != 11 {
+    if xk == row::MOVE {
+        if yk != row::MOVE {
             return Met::Push;
         }
         let v = total(yv, xv);
@@ -77,56 +78,56 @@ pub fn meets(yk: u8, yn: u16, yv: u64, xk: u8, xn: u16, xv: u64) -> Met
         }
         return Met::Sum(v);
     }
-    if xk == 1 {
-        if yk == 1 {
+    if xk == row::SET {
+        if yk == row::SET {
             return Met::Again;
         }
-        if yk == 11 {
+        if yk == row::MOVE {
             return Met::Under;
         }
         return Met::Push;
     }
-    if xk == 14 {
-        if yk == 13 {
+    if xk == row::REFER {
+        if yk == row::DEREF {
             return Met::Pop;
         }
-        if yk == 11 {
+        if yk == row::MOVE {
             return Met::Again;
         }
         return Met::Push;
     }
-    if xk == 8 {
-        if yk == 7 {
+    if xk == row::END {
+        if yk == row::ELSE {
             return Met::Again;
         }
         return Met::Push;
     }
-    if xk == 16 {
-        if yk == 11 {
+    if xk == row::OFFSET {
+        if yk == row::MOVE {
             return Met::Under;
         }
         return Met::Push;
     }
-    if xk == 9 {
+    if xk == row::STORE {
         return cell(yk, yn, xn);
     }
-    if xk == 10 {
+    if xk == row::LOAD {
         return cell(yk, yn, xn);
     }
-    if xk == 37 {
+    if xk == row::IS_NON_NEGATIVE {
         return test(yk, yn, yv, xn);
     }
     Met::Push
 }
 
-// The kind of op i, and its count; 0 beyond the last.
-pub fn kind_of(kinds: &[u8], i: usize) -> u8
-    ensures { λ r. ⌜ r ≡ getD (now (kinds .entry)) i 0 ⌝ }
+// The row of op i, and its count; 0 beyond the last.
+pub fn row_of(rows: &[u8], i: usize) -> u8
+    ensures { λ r. ⌜ r ≡ getD (now (rows .entry)) i 0 ⌝ }
 {
-    if kinds.len() <= i {
+    if rows.len() <= i {
         return 0;
     }
-    kinds[i]
+    rows[i]
 }
 
 pub fn count_of(counts: &[u16], i: usize) -> u16
@@ -149,7 +150,7 @@ pub fn put(ops: &mut [usize], values: &mut [u64], n: usize, i: usize, v: u64) ->
 
 // The push of a move.
 pub fn put_move(
-    kinds: &[u8],
+    rows: &[u8],
     ops: &mut [usize],
     values: &mut [u64],
     n: usize,
@@ -157,15 +158,15 @@ pub fn put_move(
     v: u64,
 ) -> usize
     requires { ⌜ (n < length (now ops)) × (n < length (now values)) ⌝ }
-    ensures { λ r. ⌜ (r ≤ n + 1) × (stack (now (ops .exit)) (now (values .exit)) r ≡ movedOn (now (kinds .entry)) (stack (now (ops .entry)) (now (values .entry)) n) (entry i v)) ⌝ }
+    ensures { λ r. ⌜ (r ≤ n + 1) × (stack (now (ops .exit)) (now (values .exit)) r ≡ movedOn (now (rows .entry)) (stack (now (ops .entry)) (now (values .entry)) n) (entry i v)) ⌝ }
 {
     if n == 0 {
         return put(ops, values, n, i, v);
     }
     let top = n - 1;
     let last = ops[top];
-    let k = kind_of(kinds, last);
-    if k != 11 {
+    let k = row_of(rows, last);
+    if k != row::MOVE {
         return put(ops, values, n, i, v);
     }
     let sum = total(values[top], v);
@@ -177,7 +178,7 @@ pub fn put_move(
 
 // The push of op i with the value v on the n entries; how many there are then.
 pub fn push(
-    kinds: &[u8],
+    rows: &[u8],
     counts: &[u16],
     ops: &mut [usize],
     values: &mut [u64],
@@ -186,7 +187,7 @@ pub fn push(
     v: u64,
 ) -> usize
     requires { ⌜ (n < length (now ops)) × (n < length (now values)) ⌝ }
-    ensures { λ r. ⌜ (r ≤ n + 1) × (stack (now (ops .exit)) (now (values .exit)) r ≡ pushOn (now (kinds .entry)) (now (counts .entry)) (stack (now (ops .entry)) (now (values .entry)) n) (entry i v)) ⌝ }
+    ensures { λ r. ⌜ (r ≤ n + 1) × (stack (now (ops .exit)) (now (values .exit)) r ≡ pushOn (now (rows .entry)) (now (counts .entry)) (stack (now (ops .entry)) (now (values .entry)) n) (entry i v)) ⌝ }
 {
     if n == 0 {
         return put(ops, values, n, i, v);
@@ -194,19 +195,19 @@ pub fn push(
     let top = n - 1;
     let last = ops[top];
     let value = values[top];
-    let yk = kind_of(kinds, last);
+    let yk = row_of(rows, last);
     let yn = count_of(counts, last);
-    let xk = kind_of(kinds, i);
+    let xk = row_of(rows, i);
     let xn = count_of(counts, i);
     match meets(yk, yn, value, xk, xn, v) {
         Met::Push => put(ops, values, n, i, v),
         Met::Skip => n,
         Met::Pop => top,
-        Met::Again => push(kinds, counts, ops, values, top, i, v),
-        Met::Test(w) => push(kinds, counts, ops, values, top, last, w),
+        Met::Again => push(rows, counts, ops, values, top, i, v),
+        Met::Test(w) => push(rows, counts, ops, values, top, last, w),
         Met::Under => {
-            let m = push(kinds, counts, ops, values, top, i, v);
-            put_move(kinds, ops, values, m, last, value)
+            let m = push(rows, counts, ops, values, top, i, v);
+            put_move(rows, ops, values, m, last, value)
         }
         Met::Sum(w) => put(ops, values, top, last, w),
     }

@@ -8,36 +8,32 @@ ghost use Rattle.byte_fields.specs.Bytes.{le64};
 ghost use Rattle.ops.specs.Write.{encode, Below};
 ghost use Rattle.joining.specs.Stack.{valued, valueOf, Holds, Within, entry, stack, opOf, file};
 use crate::stack::count_of;
-use crate::stack::kind_of;
+use crate::stack::row_of;
+use basics::wide::wide_int;
 use byte_fields::read::u32_at;
 use byte_fields::read::u64_at;
 use byte_fields::write::copy_bytes;
 use byte_fields::write::put_u32;
+use kind_table::row;
 
 // The first byte of op i's payload; 0 beyond the last.
-pub fn wide(p: u32) -> usize
-    ensures { λ r. ⌜ r ≡ p ⌝ }
+pub fn payload_of(payloads: &[u32], i: usize) -> usize
+    ensures { λ r. ⌜ r ≡ getD (now (payloads .entry)) i 0 ⌝ }
 {
-    p as usize
-}
-
-pub fn place_of(places: &[u32], i: usize) -> usize
-    ensures { λ r. ⌜ r ≡ getD (now (places .entry)) i 0 ⌝ }
-{
-    if places.len() <= i {
+    if payloads.len() <= i {
         return 0;
     }
-    wide(places[i])
+    wide_int(payloads[i])
 }
 
-// Whether an op of kind k that counts n has a value of its own: a Move, or a Set of one value.
+// Whether an op of row k that counts n has a value of its own: a Move, or a Set of one value.
 pub fn has_value(k: u8, n: u16) -> bool
     ensures { λ r. ⌜ r ≡ valued k n ⌝ }
 {
-    if k == 11 {
+    if k == row::MOVE {
         return true;
     }
-    if k == 1 {
+    if k == row::SET {
         return n == 1;
     }
     false
@@ -66,21 +62,21 @@ pub fn put_u64(out: &mut [u8], at: usize, v: u64)
 // The record of op i with the value v, if it has one of its own, at byte `at`; the byte after it.
 pub fn write_op(
     bytes: &[u8],
-    kinds: &[u8],
+    rows: &[u8],
     counts: &[u16],
-    places: &[u32],
+    payloads: &[u32],
     count: usize,
     i: usize,
     v: u64,
     out: &mut [u8],
     at: usize,
 ) -> usize
-    requires { ⌜ Below 256 (now bytes) × (Holds (now bytes) (now kinds) (now counts) (now places) count × ((i < count) × (at + length (encode (opOf (now bytes) (entry i v))) ≤ length (now out)))) ⌝ }
+    requires { ⌜ Below 256 (now bytes) × (Holds (now bytes) (now rows) (now counts) (now payloads) count × ((i < count) × (at + length (encode (opOf (now bytes) (entry i v))) ≤ length (now out)))) ⌝ }
     ensures { λ r. ⌜ (r ≡ at + length (encode (opOf (now (bytes .entry)) (entry i v)))) × (now (out .exit) ≡ placed (now (out .entry)) at (encode (opOf (now (bytes .entry)) (entry i v)))) ⌝ }
 {
-    let k = kind_of(kinds, i);
+    let k = row_of(rows, i);
     let n = count_of(counts, i);
-    let from = place_of(places, i) - 6;
+    let from = payload_of(payloads, i) - 6;
     if has_value(k, n) {
         copy_bytes(out, at, bytes, from, 6);
         put_u64(out, at + 6, v);
@@ -94,16 +90,16 @@ pub fn write_op(
 // The records of the n entries, the first one first; the byte after the last.
 pub fn write_all(
     bytes: &[u8],
-    kinds: &[u8],
+    rows: &[u8],
     counts: &[u16],
-    places: &[u32],
+    payloads: &[u32],
     count: usize,
     ops: &[usize],
     values: &[u64],
     n: usize,
     out: &mut [u8],
 ) -> usize
-    requires { ⌜ Below 256 (now bytes) × (Holds (now bytes) (now kinds) (now counts) (now places) count × (Within count (stack (now ops) (now values) n) × ((n ≤ length (now ops)) × ((n ≤ length (now values)) × (length (file (now bytes) (stack (now ops) (now values) n)) ≤ length (now out)))))) ⌝ }
+    requires { ⌜ Below 256 (now bytes) × (Holds (now bytes) (now rows) (now counts) (now payloads) count × (Within count (stack (now ops) (now values) n) × ((n ≤ length (now ops)) × ((n ≤ length (now values)) × (length (file (now bytes) (stack (now ops) (now values) n)) ≤ length (now out)))))) ⌝ }
     ensures { λ r. ⌜ (r ≡ length (file (now (bytes .entry)) (stack (now (ops .entry)) (now (values .entry)) n))) × (now (out .exit) ≡ fill (file (now (bytes .entry)) (stack (now (ops .entry)) (now (values .entry)) n)) (now (out .entry))) ⌝ }
 {
     let mut j = 0;
@@ -111,9 +107,9 @@ pub fn write_all(
     while j < n {
         at = write_op(
             bytes,
-            kinds,
+            rows,
             counts,
-            places,
+            payloads,
             count,
             ops[j],
             values[j],

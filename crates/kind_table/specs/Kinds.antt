@@ -1,14 +1,13 @@
--- "A fixed table gives each kind its payload and lane need": the 62 kinds, by row. Assumes nothing.
-use Prim.Native.Nat.{ℕ, _-_}
+-- "A fixed table gives each kind its payload and lane need": the 62 kinds, by row, with the lanes known after an op of the kind, and its
+-- family. Assumes nothing.
+use Prim.Native.Nat.{ℕ, _+_, _-_}
 use mathlib.Core.Bool.{cond}
 use mathlib.Core.List.{List, [], _∷_}
 use lib.ListN.{getD}
 use lib.Dec.{ltb, eqb}
+use Rattle.kind_table.specs.Columns.{empty, text, values, laneCount, amount, amountAndLanes, mode, leftOut, noLane, oneLane, ownLanes, oneInCheck, asBefore, ownCount, oneKnown, tapeFamily, controlFamily, cellFamily, laneFamily, deviceFamily, offsetFamily, swapFamily}
 use Rattle.kind_table.specs.declared.kinds.Kind.{Kind}
 
--- payload: 0 empty, 1 text, 2 values, 3 lane count, 4 i64, 5 i64 then lane count, 6 mode, 7 the kind is left out;
--- lane need: 0 none, 1 one, 2 the op's own count, 3 one in the check and none in a run;
--- lanes known after it: 0 as before, 1 the op's own count, 2 one
 abbrev pub kind : ℕ → ℕ → ℕ → Kind
 kind s n a = (s, n, a)
 
@@ -24,52 +23,97 @@ after k = k .2
 abbrev pub kinds : List Kind
 kinds =
     -- Comment
-    kind 1 0 0 ∷
+    kind text noLane asBefore ∷
     -- Set
-    kind 2 0 1 ∷
+    kind values noLane ownCount ∷
     -- Function, Call, Return, While, If, Else, End
-    kind 0 3 2 ∷ kind 0 1 2 ∷ kind 0 3 2 ∷ kind 0 1 2 ∷ kind 0 1 2 ∷ kind 0 3 2 ∷ kind 0 1 2 ∷
+    kind empty oneInCheck oneKnown ∷
+    kind empty oneLane oneKnown ∷
+    kind empty oneInCheck oneKnown ∷
+    kind empty oneLane oneKnown ∷
+    kind empty oneLane oneKnown ∷
+    kind empty oneInCheck oneKnown ∷
+    kind empty oneLane oneKnown ∷
     -- Store, Load
-    kind 3 2 0 ∷ kind 3 0 1 ∷
+    kind laneCount ownLanes asBefore ∷
+    kind laneCount noLane ownCount ∷
     -- Move
-    kind 4 0 0 ∷
+    kind amount noLane asBefore ∷
     -- Where, Deref, Refer
-    kind 0 1 0 ∷ kind 0 0 0 ∷ kind 0 0 0 ∷
+    kind empty oneLane asBefore ∷
+    kind empty noLane asBefore ∷
+    kind empty noLane asBefore ∷
     -- Index
-    kind 3 2 0 ∷
+    kind laneCount ownLanes asBefore ∷
     -- Offset
-    kind 5 2 0 ∷
+    kind amountAndLanes ownLanes asBefore ∷
     -- BitwiseNand, BitwiseAnd, BitwiseOr, BitwiseXor, BitwiseNot, LeftShift, LogicalRightShift, ArithmeticRightShift
-    kind 3 2 0 ∷ kind 3 2 0 ∷ kind 3 2 0 ∷ kind 3 2 0 ∷ kind 3 2 0 ∷ kind 3 2 0 ∷ kind 3 2 0 ∷ kind 3 2 0 ∷
+    kind laneCount ownLanes asBefore ∷
+    kind laneCount ownLanes asBefore ∷
+    kind laneCount ownLanes asBefore ∷
+    kind laneCount ownLanes asBefore ∷
+    kind laneCount ownLanes asBefore ∷
+    kind laneCount ownLanes asBefore ∷
+    kind laneCount ownLanes asBefore ∷
+    kind laneCount ownLanes asBefore ∷
     -- And, Or, Not
-    kind 3 2 0 ∷ kind 3 2 0 ∷ kind 3 2 0 ∷
+    kind laneCount ownLanes asBefore ∷
+    kind laneCount ownLanes asBefore ∷
+    kind laneCount ownLanes asBefore ∷
     -- Add, Sub, Mul, Div, Rem
-    kind 3 2 0 ∷ kind 3 2 0 ∷ kind 3 2 0 ∷ kind 3 2 0 ∷ kind 3 2 0 ∷
+    kind laneCount ownLanes asBefore ∷
+    kind laneCount ownLanes asBefore ∷
+    kind laneCount ownLanes asBefore ∷
+    kind laneCount ownLanes asBefore ∷
+    kind laneCount ownLanes asBefore ∷
     -- Neg, Inc, Dec, Swap, IsNonNegative
-    kind 3 2 0 ∷ kind 3 2 0 ∷ kind 3 2 0 ∷ kind 3 2 0 ∷ kind 3 2 0 ∷
+    kind laneCount ownLanes asBefore ∷
+    kind laneCount ownLanes asBefore ∷
+    kind laneCount ownLanes asBefore ∷
+    kind laneCount ownLanes asBefore ∷
+    kind laneCount ownLanes asBefore ∷
     -- Get, Put
-    kind 6 1 0 ∷ kind 6 1 0 ∷
+    kind mode oneLane asBefore ∷
+    kind mode oneLane asBefore ∷
     -- standard Set
-    kind 2 0 1 ∷
+    kind values noLane ownCount ∷
     -- Alloc, Free
-    kind 0 1 0 ∷ kind 0 0 0 ∷
+    kind empty oneLane asBefore ∷
+    kind empty noLane asBefore ∷
     -- ToInt, ToFloat
-    kind 3 2 0 ∷ kind 3 2 0 ∷
+    kind laneCount ownLanes asBefore ∷
+    kind laneCount ownLanes asBefore ∷
     -- FloatAdd, FloatSub, FloatMul, FloatDiv, FloatRem
-    kind 3 2 0 ∷ kind 3 2 0 ∷ kind 3 2 0 ∷ kind 3 2 0 ∷ kind 3 2 0 ∷
+    kind laneCount ownLanes asBefore ∷
+    kind laneCount ownLanes asBefore ∷
+    kind laneCount ownLanes asBefore ∷
+    kind laneCount ownLanes asBefore ∷
+    kind laneCount ownLanes asBefore ∷
     -- FloatNeg, FloatIsNonNegative
-    kind 3 2 0 ∷ kind 3 2 0 ∷
+    kind laneCount ownLanes asBefore ∷
+    kind laneCount ownLanes asBefore ∷
     -- Sin, Cos, Tan, ASin, ACos, ATan, Pow: left out
-    kind 7 0 0 ∷ kind 7 0 0 ∷ kind 7 0 0 ∷ kind 7 0 0 ∷ kind 7 0 0 ∷ kind 7 0 0 ∷ kind 7 0 0 ∷
+    kind leftOut noLane asBefore ∷
+    kind leftOut noLane asBefore ∷
+    kind leftOut noLane asBefore ∷
+    kind leftOut noLane asBefore ∷
+    kind leftOut noLane asBefore ∷
+    kind leftOut noLane asBefore ∷
+    kind leftOut noLane asBefore ∷
     -- Peek, Poke
-    kind 0 1 0 ∷ kind 0 1 0 ∷
+    kind empty oneLane asBefore ∷
+    kind empty oneLane asBefore ∷
     -- standard Call: left out
-    kind 7 0 0 ∷
+    kind leftOut noLane asBefore ∷
     []
 
--- row k; blank from 62 on
+-- row k; blank beyond the last
 unfoldable pub kindAt : ℕ → Kind
-kindAt k = getD kinds k (kind 0 0 0)
+kindAt k = getD kinds k (kind empty noLane asBefore)
+
+-- the number of a standard kind, by its row
+abbrev pub standard : ℕ → ℕ
+standard k = k + 216
 
 -- "Core kinds 0 to 39 ..; standard kinds 256 to 277": the row of a kind's number, 62 where no kind has it
 unfoldable pub indexOf : ℕ → ℕ
@@ -77,4 +121,54 @@ indexOf k = cond (ltb k 40) k (cond (ltb k 256) 62 (cond (ltb k 278) (k - 216) 6
 
 -- the lanes that a run of an op of row k asks for, where the op counts n
 unfoldable pub runNeed : ℕ → ℕ → ℕ
-runNeed k n = cond (eqb (need (kindAt k)) 1) 1 (cond (eqb (need (kindAt k)) 2) n 0)
+runNeed k n = cond (eqb (need (kindAt k)) oneLane) 1 (cond (eqb (need (kindAt k)) ownLanes) n 0)
+
+-- the family of each row
+abbrev pub families : List ℕ
+families =
+    -- Comment
+    tapeFamily ∷
+    -- Set
+    tapeFamily ∷
+    -- Function, Call, Return, While, If, Else, End
+    controlFamily ∷ controlFamily ∷ controlFamily ∷ controlFamily ∷ controlFamily ∷ controlFamily ∷ controlFamily ∷
+    -- Store, Load
+    tapeFamily ∷ tapeFamily ∷
+    -- Move
+    tapeFamily ∷
+    -- Where, Deref, Refer
+    tapeFamily ∷ tapeFamily ∷ tapeFamily ∷
+    -- Index
+    cellFamily ∷
+    -- Offset
+    offsetFamily ∷
+    -- BitwiseNand, BitwiseAnd, BitwiseOr, BitwiseXor, BitwiseNot, LeftShift, LogicalRightShift, ArithmeticRightShift
+    cellFamily ∷ cellFamily ∷ cellFamily ∷ cellFamily ∷ laneFamily ∷ cellFamily ∷ cellFamily ∷ cellFamily ∷
+    -- And, Or, Not
+    cellFamily ∷ cellFamily ∷ laneFamily ∷
+    -- Add, Sub, Mul, Div, Rem
+    cellFamily ∷ cellFamily ∷ cellFamily ∷ cellFamily ∷ cellFamily ∷
+    -- Neg, Inc, Dec, Swap, IsNonNegative
+    laneFamily ∷ laneFamily ∷ laneFamily ∷ swapFamily ∷ laneFamily ∷
+    -- Get, Put
+    deviceFamily ∷ deviceFamily ∷
+    -- standard Set
+    tapeFamily ∷
+    -- Alloc, Free
+    tapeFamily ∷ tapeFamily ∷
+    -- ToInt, ToFloat
+    laneFamily ∷ laneFamily ∷
+    -- FloatAdd, FloatSub, FloatMul, FloatDiv, FloatRem
+    cellFamily ∷ cellFamily ∷ cellFamily ∷ cellFamily ∷ cellFamily ∷
+    -- FloatNeg, FloatIsNonNegative
+    laneFamily ∷ laneFamily ∷
+    -- Sin, Cos, Tan, ASin, ACos, ATan, Pow: left out
+    tapeFamily ∷ tapeFamily ∷ tapeFamily ∷ tapeFamily ∷ tapeFamily ∷ tapeFamily ∷ tapeFamily ∷
+    -- Peek, Poke
+    deviceFamily ∷ deviceFamily ∷
+    -- standard Call: left out
+    tapeFamily ∷
+    []
+
+unfoldable pub familyOf : ℕ → ℕ
+familyOf k = getD families k tapeFamily

@@ -1,133 +1,170 @@
 // The table of the 62 kinds: core kinds 0 to 39 are rows 0 to 39, standard kinds 256 to 277 are rows 40 to 61.
 ghost use mathlib.Core.Path.{_≡_};
 ghost use Prim.Native.Nat.{_≤_};
-ghost use Rattle.kind_table.specs.Kinds.{kindAt, indexOf, runNeed};
+ghost use Rattle.kind_table.specs.Kinds.{kindAt, familyOf, indexOf, runNeed};
+use crate::family;
+use crate::known;
+use crate::need;
+use crate::row;
+use crate::shape;
 
-// The payloads: none, text, values of 8 bytes, a lane count, an i64, an i64 and a lane count, a mode; and the kinds left out.
-const EMPTY: u8 = 0;
+// How many rows there are, and how many of them are core kinds; the number of the first standard kind and the one after the last; and by how much
+// a standard kind's number is above its row.
+pub const COUNT: usize = 62;
 
-const TEXT: u8 = 1;
+const CORE: usize = 40;
 
-const VALUES: u8 = 2;
+const STANDARD: usize = 256;
 
-const LANES: u8 = 3;
+const BEYOND: usize = STANDARD + COUNT - CORE;
 
-const MOVE: u8 = 4;
-
-const OFFSET: u8 = 5;
-
-const MODE: u8 = 6;
-
-const LEFT_OUT: u8 = 7;
-
-// The lanes needed: none, one, the op's own count, or one in the check and none in a run.
-const NONE: u8 = 0;
-
-const ONE: u8 = 1;
-
-const ALL: u8 = 2;
-
-const CHECKED: u8 = 3;
-
-// The lanes known after: as before, the op's own count, or one.
-const KEEP: u8 = 0;
-
-const OWN: u8 = 1;
-
-const LONE: u8 = 2;
+const ABOVE: usize = STANDARD - CORE;
 
 // A kind's payload, the lanes that it needs, and the lanes known after it.
 pub struct Kind(pub u8, pub u8, pub u8);
 
-const KINDS: [Kind; 62] = [
-    Kind(TEXT, NONE, KEEP), // Comment
-    Kind(VALUES, NONE, OWN), // Set
-    Kind(EMPTY, CHECKED, LONE), // Function
-    Kind(EMPTY, ONE, LONE), // Call
-    Kind(EMPTY, CHECKED, LONE), // Return
-    Kind(EMPTY, ONE, LONE), // While
-    Kind(EMPTY, ONE, LONE), // If
-    Kind(EMPTY, CHECKED, LONE), // Else
-    Kind(EMPTY, ONE, LONE), // End
-    Kind(LANES, ALL, KEEP), // Store
-    Kind(LANES, NONE, OWN), // Load
-    Kind(MOVE, NONE, KEEP), // Move
-    Kind(EMPTY, ONE, KEEP), // Where
-    Kind(EMPTY, NONE, KEEP), // Deref
-    Kind(EMPTY, NONE, KEEP), // Refer
-    Kind(LANES, ALL, KEEP), // Index
-    Kind(OFFSET, ALL, KEEP), // Offset
-    Kind(LANES, ALL, KEEP), // BitwiseNand
-    Kind(LANES, ALL, KEEP), // BitwiseAnd
-    Kind(LANES, ALL, KEEP), // BitwiseOr
-    Kind(LANES, ALL, KEEP), // BitwiseXor
-    Kind(LANES, ALL, KEEP), // BitwiseNot
-    Kind(LANES, ALL, KEEP), // LeftShift
-    Kind(LANES, ALL, KEEP), // LogicalRightShift
-    Kind(LANES, ALL, KEEP), // ArithmeticRightShift
-    Kind(LANES, ALL, KEEP), // And
-    Kind(LANES, ALL, KEEP), // Or
-    Kind(LANES, ALL, KEEP), // Not
-    Kind(LANES, ALL, KEEP), // Add
-    Kind(LANES, ALL, KEEP), // Sub
-    Kind(LANES, ALL, KEEP), // Mul
-    Kind(LANES, ALL, KEEP), // Div
-    Kind(LANES, ALL, KEEP), // Rem
-    Kind(LANES, ALL, KEEP), // Neg
-    Kind(LANES, ALL, KEEP), // Inc
-    Kind(LANES, ALL, KEEP), // Dec
-    Kind(LANES, ALL, KEEP), // Swap
-    Kind(LANES, ALL, KEEP), // IsNonNegative
-    Kind(MODE, ONE, KEEP), // Get
-    Kind(MODE, ONE, KEEP), // Put
-    Kind(VALUES, NONE, OWN), // standard Set
-    Kind(EMPTY, ONE, KEEP), // Alloc
-    Kind(EMPTY, NONE, KEEP), // Free
-    Kind(LANES, ALL, KEEP), // ToInt
-    Kind(LANES, ALL, KEEP), // ToFloat
-    Kind(LANES, ALL, KEEP), // FloatAdd
-    Kind(LANES, ALL, KEEP), // FloatSub
-    Kind(LANES, ALL, KEEP), // FloatMul
-    Kind(LANES, ALL, KEEP), // FloatDiv
-    Kind(LANES, ALL, KEEP), // FloatRem
-    Kind(LANES, ALL, KEEP), // FloatNeg
-    Kind(LANES, ALL, KEEP), // FloatIsNonNegative
-    Kind(LEFT_OUT, NONE, KEEP), // Sin
-    Kind(LEFT_OUT, NONE, KEEP), // Cos
-    Kind(LEFT_OUT, NONE, KEEP), // Tan
-    Kind(LEFT_OUT, NONE, KEEP), // ASin
-    Kind(LEFT_OUT, NONE, KEEP), // ACos
-    Kind(LEFT_OUT, NONE, KEEP), // ATan
-    Kind(LEFT_OUT, NONE, KEEP), // Pow
-    Kind(EMPTY, ONE, KEEP), // Peek
-    Kind(EMPTY, ONE, KEEP), // Poke
-    Kind(LEFT_OUT, NONE, KEEP), // standard Call
+const KINDS: [Kind; COUNT] = [
+    Kind(shape::TEXT, need::NONE, known::KEEP), // Comment
+    Kind(shape::VALUES, need::NONE, known::OWN), // Set
+    Kind(shape::EMPTY, need::CHECKED, known::LONE), // Function
+    Kind(shape::EMPTY, need::ONE, known::LONE), // Call
+    Kind(shape::EMPTY, need::CHECKED, known::LONE), // Return
+    Kind(shape::EMPTY, need::ONE, known::LONE), // While
+    Kind(shape::EMPTY, need::ONE, known::LONE), // If
+    Kind(shape::EMPTY, need::CHECKED, known::LONE), // Else
+    Kind(shape::EMPTY, need::ONE, known::LONE), // End
+    Kind(shape::LANES, need::ALL, known::KEEP), // Store
+    Kind(shape::LANES, need::NONE, known::OWN), // Load
+    Kind(shape::MOVE, need::NONE, known::KEEP), // Move
+    Kind(shape::EMPTY, need::ONE, known::KEEP), // Where
+    Kind(shape::EMPTY, need::NONE, known::KEEP), // Deref
+    Kind(shape::EMPTY, need::NONE, known::KEEP), // Refer
+    Kind(shape::LANES, need::ALL, known::KEEP), // Index
+    Kind(shape::OFFSET, need::ALL, known::KEEP), // Offset
+    Kind(shape::LANES, need::ALL, known::KEEP), // BitwiseNand
+    Kind(shape::LANES, need::ALL, known::KEEP), // BitwiseAnd
+    Kind(shape::LANES, need::ALL, known::KEEP), // BitwiseOr
+    Kind(shape::LANES, need::ALL, known::KEEP), // BitwiseXor
+    Kind(shape::LANES, need::ALL, known::KEEP), // BitwiseNot
+    Kind(shape::LANES, need::ALL, known::KEEP), // LeftShift
+    Kind(shape::LANES, need::ALL, known::KEEP), // LogicalRightShift
+    Kind(shape::LANES, need::ALL, known::KEEP), // ArithmeticRightShift
+    Kind(shape::LANES, need::ALL, known::KEEP), // And
+    Kind(shape::LANES, need::ALL, known::KEEP), // Or
+    Kind(shape::LANES, need::ALL, known::KEEP), // Not
+    Kind(shape::LANES, need::ALL, known::KEEP), // Add
+    Kind(shape::LANES, need::ALL, known::KEEP), // Sub
+    Kind(shape::LANES, need::ALL, known::KEEP), // Mul
+    Kind(shape::LANES, need::ALL, known::KEEP), // Div
+    Kind(shape::LANES, need::ALL, known::KEEP), // Rem
+    Kind(shape::LANES, need::ALL, known::KEEP), // Neg
+    Kind(shape::LANES, need::ALL, known::KEEP), // Inc
+    Kind(shape::LANES, need::ALL, known::KEEP), // Dec
+    Kind(shape::LANES, need::ALL, known::KEEP), // Swap
+    Kind(shape::LANES, need::ALL, known::KEEP), // IsNonNegative
+    Kind(shape::MODE, need::ONE, known::KEEP), // Get
+    Kind(shape::MODE, need::ONE, known::KEEP), // Put
+    Kind(shape::VALUES, need::NONE, known::OWN), // standard Set
+    Kind(shape::EMPTY, need::ONE, known::KEEP), // Alloc
+    Kind(shape::EMPTY, need::NONE, known::KEEP), // Free
+    Kind(shape::LANES, need::ALL, known::KEEP), // ToInt
+    Kind(shape::LANES, need::ALL, known::KEEP), // ToFloat
+    Kind(shape::LANES, need::ALL, known::KEEP), // FloatAdd
+    Kind(shape::LANES, need::ALL, known::KEEP), // FloatSub
+    Kind(shape::LANES, need::ALL, known::KEEP), // FloatMul
+    Kind(shape::LANES, need::ALL, known::KEEP), // FloatDiv
+    Kind(shape::LANES, need::ALL, known::KEEP), // FloatRem
+    Kind(shape::LANES, need::ALL, known::KEEP), // FloatNeg
+    Kind(shape::LANES, need::ALL, known::KEEP), // FloatIsNonNegative
+    Kind(shape::LEFT_OUT, need::NONE, known::KEEP), // Sin
+    Kind(shape::LEFT_OUT, need::NONE, known::KEEP), // Cos
+    Kind(shape::LEFT_OUT, need::NONE, known::KEEP), // Tan
+    Kind(shape::LEFT_OUT, need::NONE, known::KEEP), // ASin
+    Kind(shape::LEFT_OUT, need::NONE, known::KEEP), // ACos
+    Kind(shape::LEFT_OUT, need::NONE, known::KEEP), // ATan
+    Kind(shape::LEFT_OUT, need::NONE, known::KEEP), // Pow
+    Kind(shape::EMPTY, need::ONE, known::KEEP), // Peek
+    Kind(shape::EMPTY, need::ONE, known::KEEP), // Poke
+    Kind(shape::LEFT_OUT, need::NONE, known::KEEP), // standard Call
 ];
 
-// The row k of the table; blank from 62 on.
+// The row k of the table; blank beyond the last.
 pub fn kind_at(k: usize) -> Kind
     ensures { λ r. ⌜ r ≡ kindAt k ⌝ }
 {
-    if 62 <= k {
-        return Kind(EMPTY, NONE, KEEP);
+    if COUNT <= k {
+        return Kind(shape::EMPTY, need::NONE, known::KEEP);
     }
     KINDS[k]
 }
 
-// The row of a kind's number; 62 where no kind has it.
+// The family of an op of row k: the table's last column. A step reads it at each op, and a constant array would be laid down anew at each reading, so
+// it is one match with a row an arm.
+pub fn family_at(k: u8) -> u8
+    ensures { λ r. ⌜ r ≡ familyOf k ⌝ }
+{
+    match k {
+        row::FUNCTION => family::CONTROL,
+        row::CALL => family::CONTROL,
+        row::RETURN => family::CONTROL,
+        row::WHILE => family::CONTROL,
+        row::IF => family::CONTROL,
+        row::ELSE => family::CONTROL,
+        row::END => family::CONTROL,
+        row::INDEX => family::CELL,
+        row::OFFSET => family::OFFSET,
+        row::BITWISE_NAND => family::CELL,
+        row::BITWISE_AND => family::CELL,
+        row::BITWISE_OR => family::CELL,
+        row::BITWISE_XOR => family::CELL,
+        row::BITWISE_NOT => family::LANE,
+        row::LEFT_SHIFT => family::CELL,
+        row::LOGICAL_RIGHT_SHIFT => family::CELL,
+        row::ARITHMETIC_RIGHT_SHIFT => family::CELL,
+        row::AND => family::CELL,
+        row::OR => family::CELL,
+        row::NOT => family::LANE,
+        row::ADD => family::CELL,
+        row::SUB => family::CELL,
+        row::MUL => family::CELL,
+        row::DIV => family::CELL,
+        row::REM => family::CELL,
+        row::NEG => family::LANE,
+        row::INC => family::LANE,
+        row::DEC => family::LANE,
+        row::SWAP => family::SWAP,
+        row::IS_NON_NEGATIVE => family::LANE,
+        row::GET => family::DEVICE,
+        row::PUT => family::DEVICE,
+        row::TO_INT => family::LANE,
+        row::TO_FLOAT => family::LANE,
+        row::FLOAT_ADD => family::CELL,
+        row::FLOAT_SUB => family::CELL,
+        row::FLOAT_MUL => family::CELL,
+        row::FLOAT_DIV => family::CELL,
+        row::FLOAT_REM => family::CELL,
+        row::FLOAT_NEG => family::LANE,
+        row::FLOAT_IS_NON_NEGATIVE => family::LANE,
+        row::PEEK => family::DEVICE,
+        row::POKE => family::DEVICE,
+        _ => family::TAPE,
+    }
+}
+
+// The row of a kind's number; the row after the last where no kind has it.
 pub fn index_of(number: usize) -> usize
     ensures { λ r. ⌜ (r ≡ indexOf number) × (r ≤ 62) ⌝ }
 {
-    if number < 40 {
+    if number < CORE {
         return number;
     }
-    if number < 256 {
-        return 62;
+    if number < STANDARD {
+        return COUNT;
     }
-    if number < 278 {
-        return number - 216;
+    if number < BEYOND {
+        return number - ABOVE;
     }
-    62
+    COUNT
 }
 
 // The lanes that a run of an op of row k with n lanes asks for.
@@ -135,10 +172,10 @@ pub fn run_need(k: usize, n: usize) -> usize
     ensures { λ r. ⌜ r ≡ runNeed k n ⌝ }
 {
     let kind = kind_at(k);
-    let need = kind.1;
-    match need {
-        1 => 1,
-        2 => n,
+    let asked = kind.1;
+    match asked {
+        need::ONE => 1,
+        need::ALL => n,
         _ => 0,
     }
 }

@@ -1,2 +1,8 @@
-// The table of the 62 kinds.
-pub mod kinds; // a kind's payload, the lanes that it needs and the lanes known after it
+// The table of the 62 kinds, and the names of its rows and of what stands in its columns.
+pub mod row; // the rows
+pub mod bracket; // those of the brackets, as places
+pub mod shape; // the payloads
+pub mod need; // the lanes needed
+pub mod known; // the lanes known after
+pub mod family; // the families of ops
+pub mod kinds; // the table

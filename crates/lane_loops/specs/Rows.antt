@@ -2,6 +2,7 @@
 use Prim.Native.Nat.{ℕ}
 use mathlib.Core.Bool.{cond}
 use lib.Dec.{eqb}
+use Rattle.kind_table.specs.Rows as row
 use Rattle.lanes.specs.declared.lane.CellOp.{CellOp}
 use Rattle.lanes.specs.declared.lane.CellOp.the-variants.{Index, BitwiseNand, BitwiseAnd, BitwiseOr, BitwiseXor, LeftShift, LogicalRightShift, ArithmeticRightShift, And, Or, Add, Sub, Mul, Div, Rem, FloatAdd, FloatSub, FloatMul, FloatDiv, FloatRem}
 use Rattle.lanes.specs.declared.lane.LaneOp.{LaneOp}
@@ -10,13 +11,13 @@ use Rattle.lanes.specs.declared.lane.LaneOp.the-variants.{BitwiseNot, Not, Neg,
 -- of the ops with cells; the last for every other row
 unfoldable pub cellRow : ℕ → CellOp
 cellRow k =
-    cond (eqb k 15) Index (cond (eqb k 17) BitwiseNand (cond (eqb k 18) BitwiseAnd (cond (eqb k 19) BitwiseOr (cond (eqb k 20) BitwiseXor
-    (cond (eqb k 22) LeftShift (cond (eqb k 23) LogicalRightShift (cond (eqb k 24) ArithmeticRightShift (cond (eqb k 25) And
-    (cond (eqb k 26) Or (cond (eqb k 28) Add (cond (eqb k 29) Sub (cond (eqb k 30) Mul (cond (eqb k 31) Div (cond (eqb k 32) Rem
-    (cond (eqb k 45) FloatAdd (cond (eqb k 46) FloatSub (cond (eqb k 47) FloatMul (cond (eqb k 48) FloatDiv FloatRem))))))))))))))))))
+    cond (eqb k row.index) Index (cond (eqb k row.bitwiseNand) BitwiseNand (cond (eqb k row.bitwiseAnd) BitwiseAnd (cond (eqb k row.bitwiseOr) BitwiseOr (cond (eqb k row.bitwiseXor) BitwiseXor
+    (cond (eqb k row.leftShift) LeftShift (cond (eqb k row.logicalRightShift) LogicalRightShift (cond (eqb k row.arithmeticRightShift) ArithmeticRightShift (cond (eqb k row.and) And
+    (cond (eqb k row.or) Or (cond (eqb k row.add) Add (cond (eqb k row.sub) Sub (cond (eqb k row.mul) Mul (cond (eqb k row.div) Div (cond (eqb k row.rem) Rem
+    (cond (eqb k row.floatAdd) FloatAdd (cond (eqb k row.floatSub) FloatSub (cond (eqb k row.floatMul) FloatMul (cond (eqb k row.floatDiv) FloatDiv FloatRem))))))))))))))))))
 
 -- of the lane-only ops
 unfoldable pub laneRow : ℕ → LaneOp
 laneRow k =
-    cond (eqb k 21) BitwiseNot (cond (eqb k 27) Not (cond (eqb k 33) Neg (cond (eqb k 34) Inc (cond (eqb k 35) Dec
-    (cond (eqb k 37) IsNonNegative (cond (eqb k 43) ToInt (cond (eqb k 44) ToFloat (cond (eqb k 50) FloatNeg FloatIsNonNegative))))))))
+    cond (eqb k row.bitwiseNot) BitwiseNot (cond (eqb k row.not) Not (cond (eqb k row.neg) Neg (cond (eqb k row.inc) Inc (cond (eqb k row.dec) Dec
+    (cond (eqb k row.isNonNegative) IsNonNegative (cond (eqb k row.toInt) ToInt (cond (eqb k row.toFloat) ToFloat (cond (eqb k row.floatNeg) FloatNeg FloatIsNonNegative))))))))

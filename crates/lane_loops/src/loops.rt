@@ -9,6 +9,7 @@ ghost use Rattle.lane_loops.specs.Rows.{cellRow, laneRow};
 ghost use Rattle.lane_loops.specs.Loops.{zipTo, mapTo, beside};
 use crate::rows::cell_row;
 use crate::rows::lane_row;
+use kind_table::row;
 use lanes::lane::CellOp;
 use lanes::lane::cell_rule;
 use lanes::lane::lane_rule;
@@ -47,26 +48,26 @@ pub fn cell_lanes(k: u8, register: &mut [u64], cells: &[u64], n: usize)
     ensures { λ _. ⌜ now (register .exit) ≡ zipTo (cellRule (cellRow k)) n (now (register .entry)) (now (cells .entry)) ⌝ }
 {
     match k {
-        15 => zip_lanes(15, register, cells, n),
-        17 => zip_lanes(17, register, cells, n),
-        18 => zip_lanes(18, register, cells, n),
-        19 => zip_lanes(19, register, cells, n),
-        20 => zip_lanes(20, register, cells, n),
-        22 => zip_lanes(22, register, cells, n),
-        23 => zip_lanes(23, register, cells, n),
-        24 => zip_lanes(24, register, cells, n),
-        25 => zip_lanes(25, register, cells, n),
-        26 => zip_lanes(26, register, cells, n),
-        28 => zip_lanes(28, register, cells, n),
-        29 => zip_lanes(29, register, cells, n),
-        30 => zip_lanes(30, register, cells, n),
-        31 => zip_lanes(31, register, cells, n),
-        32 => zip_lanes(32, register, cells, n),
-        45 => zip_lanes(45, register, cells, n),
-        46 => zip_lanes(46, register, cells, n),
-        47 => zip_lanes(47, register, cells, n),
-        48 => zip_lanes(48, register, cells, n),
-        _ => zip_lanes(49, register, cells, n),
+        row::INDEX => zip_lanes(row::INDEX, register, cells, n),
+        row::BITWISE_NAND => zip_lanes(row::BITWISE_NAND, register, cells, n),
+        row::BITWISE_AND => zip_lanes(row::BITWISE_AND, register, cells, n),
+        row::BITWISE_OR => zip_lanes(row::BITWISE_OR, register, cells, n),
+        row::BITWISE_XOR => zip_lanes(row::BITWISE_XOR, register, cells, n),
+        row::LEFT_SHIFT => zip_lanes(row::LEFT_SHIFT, register, cells, n),
+        row::LOGICAL_RIGHT_SHIFT => zip_lanes(row::LOGICAL_RIGHT_SHIFT, register, cells, n),
+        row::ARITHMETIC_RIGHT_SHIFT => zip_lanes(row::ARITHMETIC_RIGHT_SHIFT, register, cells, n),
+        row::AND => zip_lanes(row::AND, register, cells, n),
+        row::OR => zip_lanes(row::OR, register, cells, n),
+        row::ADD => zip_lanes(row::ADD, register, cells, n),
+        row::SUB => zip_lanes(row::SUB, register, cells, n),
+        row::MUL => zip_lanes(row::MUL, register, cells, n),
+        row::DIV => zip_lanes(row::DIV, register, cells, n),
+        row::REM => zip_lanes(row::REM, register, cells, n),
+        row::FLOAT_ADD => zip_lanes(row::FLOAT_ADD, register, cells, n),
+        row::FLOAT_SUB => zip_lanes(row::FLOAT_SUB, register, cells, n),
+        row::FLOAT_MUL => zip_lanes(row::FLOAT_MUL, register, cells, n),
+        row::FLOAT_DIV => zip_lanes(row::FLOAT_DIV, register, cells, n),
+        _ => zip_lanes(row::FLOAT_REM, register, cells, n),
     }
 }
 
@@ -76,16 +77,16 @@ pub fn alone_lanes(k: u8, register: &mut [u64], n: usize)
     ensures { λ _. ⌜ now (register .exit) ≡ mapTo (laneRule (laneRow k)) n (now (register .entry)) ⌝ }
 {
     match k {
-        21 => map_lanes(21, register, n),
-        27 => map_lanes(27, register, n),
-        33 => map_lanes(33, register, n),
-        34 => map_lanes(34, register, n),
-        35 => map_lanes(35, register, n),
-        37 => map_lanes(37, register, n),
-        43 => map_lanes(43, register, n),
-        44 => map_lanes(44, register, n),
-        50 => map_lanes(50, register, n),
-        _ => map_lanes(51, register, n),
+        row::BITWISE_NOT => map_lanes(row::BITWISE_NOT, register, n),
+        row::NOT => map_lanes(row::NOT, register, n),
+        row::NEG => map_lanes(row::NEG, register, n),
+        row::INC => map_lanes(row::INC, register, n),
+        row::DEC => map_lanes(row::DEC, register, n),
+        row::IS_NON_NEGATIVE => map_lanes(row::IS_NON_NEGATIVE, register, n),
+        row::TO_INT => map_lanes(row::TO_INT, register, n),
+        row::TO_FLOAT => map_lanes(row::TO_FLOAT, register, n),
+        row::FLOAT_NEG => map_lanes(row::FLOAT_NEG, register, n),
+        _ => map_lanes(row::FLOAT_IS_NON_NEGATIVE, register, n),
     }
 }
 

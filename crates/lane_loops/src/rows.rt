@@ -1,6 +1,7 @@
 // Which op a row of the table of kinds is.
 ghost use mathlib.Core.Path.{_≡_};
 ghost use Rattle.lane_loops.specs.Rows.{cellRow, laneRow};
+use kind_table::row;
 use lanes::lane::CellOp;
 use lanes::lane::LaneOp;
 
@@ -9,25 +10,25 @@ pub fn cell_row(k: u8) -> CellOp
     ensures { λ r. ⌜ r ≡ cellRow k ⌝ }
 {
     match k {
-        15 => CellOp::Index,
-        17 => CellOp::BitwiseNand,
-        18 => CellOp::BitwiseAnd,
-        19 => CellOp::BitwiseOr,
-        20 => CellOp::BitwiseXor,
-        22 => CellOp::LeftShift,
-        23 => CellOp::LogicalRightShift,
-        24 => CellOp::ArithmeticRightShift,
-        25 => CellOp::And,
-        26 => CellOp::Or,
-        28 => CellOp::Add,
-        29 => CellOp::Sub,
-        30 => CellOp::Mul,
-        31 => CellOp::Div,
-        32 => CellOp::Rem,
-        45 => CellOp::FloatAdd,
-        46 => CellOp::FloatSub,
-        47 => CellOp::FloatMul,
-        48 => CellOp::FloatDiv,
+        row::INDEX => CellOp::Index,
+        row::BITWISE_NAND => CellOp::BitwiseNand,
+        row::BITWISE_AND => CellOp::BitwiseAnd,
+        row::BITWISE_OR => CellOp::BitwiseOr,
+        row::BITWISE_XOR => CellOp::BitwiseXor,
+        row::LEFT_SHIFT => CellOp::LeftShift,
+        row::LOGICAL_RIGHT_SHIFT => CellOp::LogicalRightShift,
+        row::ARITHMETIC_RIGHT_SHIFT => CellOp::ArithmeticRightShift,
+        row::AND => CellOp::And,
+        row::OR => CellOp::Or,
+        row::ADD => CellOp::Add,
+        row::SUB => CellOp::Sub,
+        row::MUL => CellOp::Mul,
+        row::DIV => CellOp::Div,
+        row::REM => CellOp::Rem,
+        row::FLOAT_ADD => CellOp::FloatAdd,
+        row::FLOAT_SUB => CellOp::FloatSub,
+        row::FLOAT_MUL => CellOp::FloatMul,
+        row::FLOAT_DIV => CellOp::FloatDiv,
         _ => CellOp::FloatRem,
     }
 }
@@ -37,15 +38,15 @@ pub fn lane_row(k: u8) -> LaneOp
     ensures { λ r. ⌜ r ≡ laneRow k ⌝ }
 {
     match k {
-        21 => LaneOp::BitwiseNot,
-        27 => LaneOp::Not,
-        33 => LaneOp::Neg,
-        34 => LaneOp::Inc,
-        35 => LaneOp::Dec,
-        37 => LaneOp::IsNonNegative,
-        43 => LaneOp::ToInt,
-        44 => LaneOp::ToFloat,
-        50 => LaneOp::FloatNeg,
+        row::BITWISE_NOT => LaneOp::BitwiseNot,
+        row::NOT => LaneOp::Not,
+        row::NEG => LaneOp::Neg,
+        row::INC => LaneOp::Inc,
+        row::DEC => LaneOp::Dec,
+        row::IS_NON_NEGATIVE => LaneOp::IsNonNegative,
+        row::TO_INT => LaneOp::ToInt,
+        row::TO_FLOAT => LaneOp::ToFloat,
+        row::FLOAT_NEG => LaneOp::FloatNeg,
         _ => LaneOp::FloatIsNonNegative,
     }
 }

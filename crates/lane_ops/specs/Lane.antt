@@ -3,34 +3,35 @@ use mathlib.Core.List.{List}
 use Prim.Native.Nat.{ℕ, _+_}
 use lib.ListN.{length, drop}
 use lib.Dec.{ltb, eqb}
+use Rattle.basics.specs.Pick.{pick}
 use Rattle.lanes.specs.Int.{intAdd}
 use Rattle.lanes.specs.Lane.{cellRule, laneRule}
 use Rattle.lane_loops.specs.Loops.{zipTo, mapTo, beside}
 use Rattle.lanes.specs.declared.lane.CellOp.{CellOp}
 use Rattle.lanes.specs.declared.lane.LaneOp.{LaneOp}
-use Rattle.hops.specs.Place.{pick, next, hop, Laned, laned, Swapped, swapped}
-use Rattle.hops.specs.Parts.{copied}
-use Rattle.hops.specs.declared.place.Place.{Place}
+use Rattle.machine_numbers.specs.Numbers.{next, answered, OneList, oneList, Swapped, swapped}
+use Rattle.machine_numbers.specs.Parts.{copied}
+use Rattle.machine_numbers.specs.declared.numbers.Numbers.{Numbers}
 
-unfoldable pub cellOf : CellOp → ℕ → Place → List ℕ → List ℕ → Laned
+unfoldable pub cellOf : CellOp → ℕ → Numbers → List ℕ → List ℕ → OneList
 unfolding pick
 cellOf o n p g t =
-    pick (eqb n 0) (laned (hop 0 (next p)) g)
-    (pick (ltb (p .length) (p .pointer + n)) (laned (hop 22 p) g)
-    (pick (ltb (length t) (p .pointer + n)) (laned (hop 23 p) g)
-    (laned (hop 0 (next p)) (zipTo (cellRule o) n g (drop (p .pointer) t)))))
+    pick (eqb n 0) (oneList (answered 0 (next p)) g)
+    (pick (ltb (p .length) (p .pointer + n)) (oneList (answered 22 p) g)
+    (pick (ltb (length t) (p .pointer + n)) (oneList (answered 23 p) g)
+    (oneList (answered 0 (next p)) (zipTo (cellRule o) n g (drop (p .pointer) t)))))
 
-unfoldable pub swapOf : ℕ → Place → List ℕ → List ℕ → Swapped
+unfoldable pub swapOf : ℕ → Numbers → List ℕ → List ℕ → Swapped
 unfolding pick
 swapOf n p g t =
-    pick (eqb n 0) (swapped (hop 0 (next p)) g t)
-    (pick (ltb (p .length) (p .pointer + n)) (swapped (hop 22 p) g t)
-    (pick (ltb (length t) (p .pointer + n)) (swapped (hop 23 p) g t)
-    (swapped (hop 0 (next p)) (zipTo beside n g (drop (p .pointer) t)) (copied t (p .pointer) g n))))
+    pick (eqb n 0) (swapped (answered 0 (next p)) g t)
+    (pick (ltb (p .length) (p .pointer + n)) (swapped (answered 22 p) g t)
+    (pick (ltb (length t) (p .pointer + n)) (swapped (answered 23 p) g t)
+    (swapped (answered 0 (next p)) (zipTo beside n g (drop (p .pointer) t)) (copied t (p .pointer) g n))))
 
-unfoldable pub aloneOf : LaneOp → ℕ → Place → List ℕ → Laned
-aloneOf o n p g = laned (hop 0 (next p)) (mapTo (laneRule o) n g)
+unfoldable pub aloneOf : LaneOp → ℕ → Numbers → List ℕ → OneList
+aloneOf o n p g = oneList (answered 0 (next p)) (mapTo (laneRule o) n g)
 
 -- by the pattern v
-unfoldable pub offsetOf : ℕ → ℕ → Place → List ℕ → Laned
-offsetOf v n p g = laned (hop 0 (next p)) (mapTo (λ x. intAdd x v) n g)
+unfoldable pub offsetOf : ℕ → ℕ → Numbers → List ℕ → OneList
+offsetOf v n p g = oneList (answered 0 (next p)) (mapTo (λ x. intAdd x v) n g)

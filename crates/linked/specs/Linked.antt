@@ -6,7 +6,9 @@ use lib.Dec.{ltb}
 use lib.ListN.{length}
 use Rattle.lane_loops.specs.Loops.{zipTo, beside}
 use Rattle.patch_reader.specs.declared.reader.Read.{Read}
+use Rattle.machine_step.specs.Held.{Slices, slices}
 use Rattle.bridge.specs.Run.{Ran}
+use Rattle.answers.specs.Run as running
 use Rattle.answers.specs.Check as checking
 use Rattle.answers.specs.declared.check.Verdict.{Verdict}
 use Rattle.answers.specs.Join as joining
@@ -37,19 +39,17 @@ ofCheck v a = given (checking.numberOf v) (told (checking.numberOf v ∷ checkin
 -- ---- the run: number, place, steps and the count of outputs; and the lent slices
 pub record Run : Type 0 where
   pub given : Given
-  pub register : List ℕ
-  pub tape : List ℕ
-  pub table : List ℕ
-  pub channel : List ℕ
-  pub output : List ℕ
+  pub lent : Slices
 
-abbrev pub run : ℕ → List ℕ → List ℕ → List ℕ → List ℕ → List ℕ → List ℕ → Run
-run n a g t ts ch o = record { given = given n a; register = g; tape = t; table = ts; channel = ch; output = o }
+abbrev pub run : ℕ → List ℕ → Slices → Run
+run n a l = record { given = given n a; lent = l }
 
 abbrev pub ofRun : Ran → List ℕ → Run
 ofRun r a =
-    run (r .number) (told (r .number ∷ r .place ∷ r .steps ∷ r .held .place .written ∷ []) a)
-    (r .held .register) (r .held .tape) (r .held .table) (r .held .channel) (r .held .output)
+    let number = running.numberOf (r .answer) in
+    let place = running.placeOf (r .answer) (r .held .numbers .position) in
+    run number (told (number ∷ place ∷ r .steps ∷ r .held .numbers .written ∷ []) a)
+    (slices (r .held .register) (r .held .tape) (r .held .table) (r .held .channel) (r .held .output))
 
 -- ---- joining: number, place and the bytes written; and the lent bytes
 pub record Join : Type 0 where

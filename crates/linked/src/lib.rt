@@ -1,9 +1,11 @@
 // The machine's calls for programs in C or Rust to link. A slice is a pointer and a length. Each call gives back its number, and writes its numbers to
-// the start of `answer`, as many of them as it has room for: number and place first, then what the call gives besides.
+// the start of `answer`, as many of them as it has room for: number and place first, then what the call gives besides. The caller owes that so many
+// elements stand at each pointer as its length says, and that no slice that is written overlaps another.
 ghost use mathlib.Core.Path.{_≡_};
 ghost use Rattle.ops.specs.Patch.{patchOf};
 ghost use Rattle.patch_reader.specs.Answer.{readOf};
-ghost use Rattle.machine.specs.Calls.{freshOver};
+ghost use Rattle.machine_step.specs.Held.{slices};
+ghost use Rattle.machine.specs.Calls.{freshCall};
 ghost use Rattle.patch_check.specs.File.{checkOf};
 ghost use Rattle.joining.specs.Joined.{joinOf};
 ghost use Rattle.flattening.specs.Flattened.{flattenOf};
@@ -51,11 +53,11 @@ pub extern "C" fn feltcairn_run_fresh(
     budget: u32,
     answer: &mut [u64],
 ) -> usize
-    ensures { λ r. ⌜ run r (now (answer .exit)) (now (register .exit)) (now (tape .exit)) (now (table .exit)) (now (channel .exit)) (now (output .exit)) ≡ ofRun (freshOver (now (bytes .entry)) (now (input .entry)) budget (now (register .entry)) (now (tape .entry)) (now (table .entry)) (now (channel .entry)) (now (output .entry))) (now (answer .entry)) ⌝ }
+    ensures { λ r. ⌜ run r (now (answer .exit)) (slices (now (register .exit)) (now (tape .exit)) (now (table .exit)) (now (channel .exit)) (now (output .exit))) ≡ ofRun (freshCall (now (bytes .entry)) (now (input .entry)) budget (slices (now (register .entry)) (now (tape .entry)) (now (table .entry)) (now (channel .entry)) (now (output .entry)))) (now (answer .entry)) ⌝ }
 {
     let r = Machine::run_fresh(bytes, register, tape, table, channel, input, output, budget);
     let a = r.answer;
-    let h = r.machine.place;
+    let h = r.machine.numbers;
     let number = answers::run::number_of(a);
     let place = answers::run::place_of(a, h.position);
     let steps = r.steps;

@@ -1,4 +1,4 @@
 -- The laws behind the machine's calls, in reading order.
-pub mod Turns
+pub mod RunLoop
 pub mod Called
-pub mod Once
+pub mod StepIsARun

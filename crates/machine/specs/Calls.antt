@@ -1,17 +1,19 @@
--- The public calls: "Every public call reads the patch first, then 37, then works." What each leaves: number, steps, place, and all that the
--- machine holds, through the model's step and run on what is seen of it. Assumes nothing.
-use mathlib.Core.Bool.{cond}
+-- The public calls: what each answers, and all that it leaves, through the model's step and run on what is seen of the machine. Assumes nothing.
+use mathlib.Core.Bool.{Bool, cond}
 use mathlib.Core.List.{List}
 use Prim.Native.Nat.{ℕ}
 use lib.ListN.{length}
 use lib.Dec.{eqb}
+use Rattle.basics.specs.Limits as limit
 use Rattle.ops.specs.Patch.{patchOf}
-use Rattle.machine_model.specs.Step.{step}
-use Rattle.machine_step.specs.Held.{Held, held, After}
-use Rattle.bridge.specs.View.{view, laid}
-use Rattle.bridge.specs.Decoded.{codeOf, givenOf}
-use Rattle.bridge.specs.Run.{Ran, runIn}
-use Rattle.answers.specs.Run.{numberOf, placeOf}
+use Rattle.answers.specs.declared.run.Answer.{Answer}
+use Rattle.answers.specs.declared.run.Answer.the-variants.{BadFile, NotAState, Went, Finished, Refused}
+use Rattle.machine_model.specs.Step.{Outcome, step}
+use Rattle.machine_model.specs.Step.Outcome.{finished, refused, next}
+use Rattle.machine_step.specs.Held.{Slices, slices, Held, held}
+use Rattle.bridge.specs.View.{view, lay}
+use Rattle.bridge.specs.Decoded.{codeOf, givenTo}
+use Rattle.bridge.specs.Run.{Ran, ran, runLaid}
 use Rattle.states.specs.Formed.{hasRoom, isFormed}
 use Rattle.states.specs.Zeros.{zeroed}
 use Rattle.machine.specs.Fresh.{freshOf}
@@ -19,65 +21,57 @@ use Rattle.machine.specs.declared.machine.Machine.{Machine}
 use Rattle.machine.specs.declared.machine.Stepped.{Stepped}
 use Rattle.machine.specs.declared.machine.Ran as code
 
--- a machine among what it is lent: register, tape, table, channel and output
-abbrev pub lent : Machine → List ℕ → List ℕ → List ℕ → List ℕ → List ℕ → Held
-lent m g t ts ch o = held (m .place) (m .calls) (m .refs) g t ts ch o
+-- a machine among the slices that it is lent
+abbrev pub lent : Machine → Slices → Held
+lent m l = held (m .numbers) (m .calls) (m .refs) (l .register) (l .tape) (l .table) (l .channel) (l .output)
 
--- an answer that changes nothing: "Refused before any step, a run changes nothing"
-abbrev pub unmoved : ℕ → ℕ → Held → Ran
-unmoved n p c = record { number = n; steps = 0; place = p; held = c }
+-- "Every public call reads the patch first, then 37, then works": the file's refusal, 37 where the test fails, else the work
+abbrev pub calling : {A : Type 0} → List ℕ → Bool → (Answer → A) → A → A
+calling s test refuse work =
+    cond (eqb (patchOf s .number) 0) (cond test work (refuse NotAState)) (refuse (BadFile (patchOf s .number) (patchOf s .place)))
 
 -- ---- a step
 
+-- what a step leaves: its answer, and all that the machine holds
 pub record Shown : Type 0 where
-  pub number : ℕ
-  pub place : ℕ
+  pub answer : Answer
   pub held : Held
 
-abbrev pub still : ℕ → ℕ → Held → Shown
-still n p c = record { number = n; place = p; held = c }
+abbrev pub shown : Answer → Held → Shown
+shown a c = record { answer = a; held = c }
 
--- the model's step on what is seen of c, laid over c; halted or at the end, c itself
-abbrev pub showing : After → Shown
-showing a = record { number = a .number; place = a .held .place .position; held = a .held }
+-- the model's outcome, laid over what the step began with: a refused step leaves all as it found it
+abbrev pub shownOf : Held → Outcome → Shown
+shownOf c finished = shown Finished c
+shownOf c (refused n) = shown (Refused n) c
+shownOf c (next s) = shown Went (lay s c)
 
-abbrev pub stepOver : List ℕ → List ℕ → Held → Shown
-stepOver s input c = showing (laid c (step (givenOf s input (length (c .output))) (view c)))
+abbrev pub stepLaid : List ℕ → List ℕ → Held → Shown
+stepLaid s input c = shownOf c (step (givenTo s input c) (view c))
 
--- the file's refusal, 37, or the step
-unfoldable pub stepIn : List ℕ → List ℕ → Held → Shown
+unfoldable pub stepCall : List ℕ → List ℕ → Held → Shown
 unfolding step
-stepIn s input c =
-    cond (eqb (patchOf s .number) 0)
-    (cond (isFormed (codeOf s .kinds) (length input) c) (stepOver s input c) (still 37 0 c))
-    (still (patchOf s .number) (patchOf s .place) c)
+stepCall s input c = calling s (isFormed (codeOf s .rows) (length input) c) (λ a. shown a c) (stepLaid s input c)
 
-abbrev pub steppedTo : Stepped → List ℕ → List ℕ → List ℕ → List ℕ → List ℕ → Shown
-steppedTo r g t ts ch o =
-    record { number = numberOf (r .answer); place = placeOf (r .answer) (r .machine .place .position); held = lent (r .machine) g t ts ch o }
+abbrev pub steppedTo : Stepped → Slices → Shown
+steppedTo r l = shown (r .answer) (lent (r .machine) l)
 
--- ---- a run of at most b steps
+-- ---- a run of at most b steps: "Refused before any step, a run changes nothing"
 
-unfoldable pub runOver : List ℕ → List ℕ → ℕ → Held → Ran
-unfolding runIn
-runOver s input b c =
-    cond (eqb (patchOf s .number) 0)
-    (cond (isFormed (codeOf s .kinds) (length input) c) (runIn (givenOf s input (length (c .output))) b c) (unmoved 37 0 c))
-    (unmoved (patchOf s .number) (patchOf s .place) c)
+unfoldable pub runCall : List ℕ → List ℕ → ℕ → Held → Ran
+unfolding runLaid
+runCall s input b c = calling s (isFormed (codeOf s .rows) (length input) c) (λ a. ran a 0 c) (runLaid (givenTo s input c) b c)
 
-abbrev pub ranTo : code.Ran → List ℕ → List ℕ → List ℕ → List ℕ → List ℕ → Ran
-ranTo r g t ts ch o =
-    record { number = numberOf (r .answer); steps = r .steps; place = placeOf (r .answer) (r .machine .place .position); held = lent (r .machine) g t ts ch o }
+abbrev pub ranTo : code.Ran → Slices → Ran
+ranTo r l = ran (r .answer) (r .steps) (lent (r .machine) l)
 
 -- ---- the fresh run
 
 -- "The fresh run, if nothing is refused before its steps, first writes zeros to the lent tape", and to the 1,024 lanes
-abbrev pub freshOn : List ℕ → List ℕ → List ℕ → List ℕ → List ℕ → Held
-freshOn g t ts ch o = lent freshOf (zeroed 1024 g) (zeroed (length t) t) ts ch o
+abbrev pub freshOn : Slices → Held
+freshOn l = lent freshOf (slices (zeroed limit.lanes (l .register)) (zeroed (length (l .tape)) (l .tape)) (l .table) (l .channel) (l .output))
 
-unfoldable pub freshOver : List ℕ → List ℕ → ℕ → List ℕ → List ℕ → List ℕ → List ℕ → List ℕ → Ran
-unfolding runIn
-freshOver s input b g t ts ch o =
-    cond (eqb (patchOf s .number) 0)
-    (cond (hasRoom g ts ch) (runIn (givenOf s input (length o)) b (freshOn g t ts ch o)) (unmoved 37 0 (lent freshOf g t ts ch o)))
-    (unmoved (patchOf s .number) (patchOf s .place) (lent freshOf g t ts ch o))
+unfoldable pub freshCall : List ℕ → List ℕ → ℕ → Slices → Ran
+unfolding runLaid
+freshCall s input b l =
+    calling s (hasRoom (l .register) (l .table) (l .channel)) (λ a. ran a 0 (lent freshOf l)) (runLaid (givenTo s input (freshOn l)) b (freshOn l))

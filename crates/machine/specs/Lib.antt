@@ -1,3 +1,3 @@
 pub mod Fresh
 pub mod Calls
-pub mod Going
+pub mod Ready

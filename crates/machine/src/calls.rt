@@ -1,7 +1,9 @@
 // A run and a step. Each reads the patch first, then tests the state, then works.
 ghost use mathlib.Core.Path.{_≡_};
 ghost use Prim.Native.Nat.{ℕ};
-ghost use Rattle.machine.specs.Calls.{lent, stepIn, steppedTo, runOver, ranTo};
+ghost use Rattle.machine_step.specs.Held.{slices};
+ghost use Rattle.machine.specs.Calls.{lent, stepCall, steppedTo, runCall, ranTo};
+use crate::going::go;
 use crate::machine::Machine;
 use crate::machine::Ran;
 use crate::machine::Stepped;
@@ -11,7 +13,7 @@ use states::formed::is_formed;
 impl Machine {
     // Steps until the machine is finished, a step is refused, or so many are made.
     pub fn run(
-        self,
+        mut self,
         bytes: &[u8],
         register: &mut [u64],
         tape: &mut [u64],
@@ -21,36 +23,36 @@ impl Machine {
         output: &mut [u64],
         budget: u32,
     ) -> Ran
-        ensures { λ r. ⌜ ranTo r (now (register .exit)) (now (tape .exit)) (now (table .exit)) (now (channel .exit)) (now (output .exit)) ≡ runOver (now (bytes .entry)) (now (input .entry)) budget (lent self (now (register .entry)) (now (tape .entry)) (now (table .entry)) (now (channel .entry)) (now (output .entry))) ⌝ }
+        ensures { λ r. ⌜ ranTo r (slices (now (register .exit)) (now (tape .exit)) (now (table .exit)) (now (channel .exit)) (now (output .exit))) ≡ runCall (now (bytes .entry)) (now (input .entry)) budget (lent self (slices (now (register .entry)) (now (tape .entry)) (now (table .entry)) (now (channel .entry)) (now (output .entry)))) ⌝ }
     {
-        let mut kinds = [0u8; 4096];
-        let mut counts = [0u16; 4096];
-        let mut needs = [0u16; 4096];
-        let mut places = [0u32; 4096];
+        let mut rows = [0u8; Machine::OPS];
+        let mut counts = [0u16; Machine::OPS];
+        let mut needs = [0u16; Machine::OPS];
+        let mut payloads = [0u32; Machine::OPS];
         let read = patch_reader::reader::load(
             bytes,
-            &mut kinds,
+            &mut rows,
             &mut counts,
             &mut needs,
-            &mut places,
+            &mut payloads,
         );
         let number = read.number;
-        let n = read.place;
         if number != 0 {
             return Ran {
-                answer: Answer::BadFile(number, n),
+                answer: Answer::BadFile(number, read.place),
                 steps: 0,
                 machine: self,
             };
         }
-        let calls = self.calls;
-        let refs = self.refs;
-        let h = self.place;
+        let n = read.ops;
+        let h = self.numbers;
+        let mut calls = self.calls;
+        let mut refs = self.refs;
         if !is_formed(
             h,
             &calls,
             &refs,
-            &kinds[..n],
+            &rows[..n],
             register,
             tape,
             table,
@@ -64,12 +66,15 @@ impl Machine {
                 machine: self,
             };
         }
-        self.go(
-            &kinds[..n],
+        let ended = go(
+            h,
+            &rows[..n],
             &counts[..n],
             &needs[..n],
-            &places[..n],
+            &payloads[..n],
             bytes,
+            &mut calls,
+            &mut refs,
             register,
             tape,
             table,
@@ -77,12 +82,22 @@ impl Machine {
             input,
             output,
             budget,
-        )
+        );
+        let answer = ended.answer;
+        let left = ended.numbers;
+        self.numbers = left;
+        self.calls = calls;
+        self.refs = refs;
+        Ran {
+            answer,
+            steps: ended.steps,
+            machine: self,
+        }
     }
 
     // One step: a run of at most one. Where none was made its answer says why.
     pub fn step(
-        self,
+        mut self,
         bytes: &[u8],
         register: &mut [u64],
         tape: &mut [u64],
@@ -91,17 +106,21 @@ impl Machine {
         input: &[u64],
         output: &mut [u64],
     ) -> Stepped
-        ensures { λ r. ⌜ steppedTo r (now (register .exit)) (now (tape .exit)) (now (table .exit)) (now (channel .exit)) (now (output .exit)) ≡ stepIn (now (bytes .entry)) (now (input .entry)) (lent self (now (register .entry)) (now (tape .entry)) (now (table .entry)) (now (channel .entry)) (now (output .entry))) ⌝ }
+        ensures { λ r. ⌜ steppedTo r (slices (now (register .exit)) (now (tape .exit)) (now (table .exit)) (now (channel .exit)) (now (output .exit))) ≡ stepCall (now (bytes .entry)) (now (input .entry)) (lent self (slices (now (register .entry)) (now (tape .entry)) (now (table .entry)) (now (channel .entry)) (now (output .entry)))) ⌝ }
     {
         let r = self.run(bytes, register, tape, table, channel, input, output, 1);
         let answer = r.answer;
-        let machine = r.machine;
+        let next = r.machine;
+        self = next;
         if r.steps == 0 {
-            return Stepped { answer, machine };
+            return Stepped {
+                answer,
+                machine: self,
+            };
         }
         Stepped {
             answer: Answer::Went,
-            machine,
+            machine: self,
         }
     }
 }

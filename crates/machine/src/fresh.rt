@@ -1,7 +1,9 @@
 // The fresh run: it reads the patch first, then tests the lent room, then writes its zeros and works.
 ghost use mathlib.Core.Path.{_≡_};
 ghost use Prim.Native.Nat.{ℕ};
-ghost use Rattle.machine.specs.Calls.{ranTo, freshOver};
+ghost use Rattle.machine_step.specs.Held.{slices};
+ghost use Rattle.machine.specs.Calls.{ranTo, freshCall};
+use crate::going::go;
 use crate::machine::Machine;
 use crate::machine::Ran;
 use answers::run::Answer;
@@ -20,29 +22,29 @@ impl Machine {
         output: &mut [u64],
         budget: u32,
     ) -> Ran
-        ensures { λ r. ⌜ ranTo r (now (register .exit)) (now (tape .exit)) (now (table .exit)) (now (channel .exit)) (now (output .exit)) ≡ freshOver (now (bytes .entry)) (now (input .entry)) budget (now (register .entry)) (now (tape .entry)) (now (table .entry)) (now (channel .entry)) (now (output .entry)) ⌝ }
+        ensures { λ r. ⌜ ranTo r (slices (now (register .exit)) (now (tape .exit)) (now (table .exit)) (now (channel .exit)) (now (output .exit))) ≡ freshCall (now (bytes .entry)) (now (input .entry)) budget (slices (now (register .entry)) (now (tape .entry)) (now (table .entry)) (now (channel .entry)) (now (output .entry))) ⌝ }
     {
-        let mut kinds = [0u8; 4096];
-        let mut counts = [0u16; 4096];
-        let mut needs = [0u16; 4096];
-        let mut places = [0u32; 4096];
-        let m = Machine::fresh();
+        let mut rows = [0u8; Machine::OPS];
+        let mut counts = [0u16; Machine::OPS];
+        let mut needs = [0u16; Machine::OPS];
+        let mut payloads = [0u32; Machine::OPS];
+        let mut m = Machine::fresh();
         let read = patch_reader::reader::load(
             bytes,
-            &mut kinds,
+            &mut rows,
             &mut counts,
             &mut needs,
-            &mut places,
+            &mut payloads,
         );
         let number = read.number;
-        let n = read.place;
         if number != 0 {
             return Ran {
-                answer: Answer::BadFile(number, n),
+                answer: Answer::BadFile(number, read.place),
                 steps: 0,
                 machine: m,
             };
         }
+        let n = read.ops;
         if !has_room(register, table, channel) {
             return Ran {
                 answer: Answer::NotAState,
@@ -51,14 +53,20 @@ impl Machine {
             };
         }
         let cells = tape.len();
-        zero(register, 1024);
+        zero(register, Machine::LANES);
         zero(tape, cells);
-        m.go(
-            &kinds[..n],
+        let h = m.numbers;
+        let mut calls = m.calls;
+        let mut refs = m.refs;
+        let ended = go(
+            h,
+            &rows[..n],
             &counts[..n],
             &needs[..n],
-            &places[..n],
+            &payloads[..n],
             bytes,
+            &mut calls,
+            &mut refs,
             register,
             tape,
             table,
@@ -66,6 +74,16 @@ impl Machine {
             input,
             output,
             budget,
-        )
+        );
+        let answer = ended.answer;
+        let left = ended.numbers;
+        m.numbers = left;
+        m.calls = calls;
+        m.refs = refs;
+        Ran {
+            answer,
+            steps: ended.steps,
+            machine: m,
+        }
     }
 }

@@ -1,18 +1,22 @@
-// The steps of a patch that is read: the stacks and the numbers in locals, one inner step after the other, and the machine put together when it
-// leaves.
+// The steps of a patch that is read: one inner step after the other, until they end.
 ghost use mathlib.Core.Path.{_≡_};
 ghost use Prim.Native.Nat.{ℕ};
-ghost use Rattle.machine_step.specs.Held.{code};
-ghost use Rattle.bridge.specs.Run.{runOf};
-ghost use Rattle.machine.specs.Going.{Going, overOf};
-ghost use Rattle.machine.specs.Calls.{lent, ranTo};
-use crate::machine::Machine;
-use crate::machine::Ran;
+ghost use Rattle.machine_step.specs.Held.{held, code};
+ghost use Rattle.bridge.specs.Run.{ran, runOf};
+ghost use Rattle.machine.specs.Ready.{ReadyToRun, overOf};
 use answers::run::Answer;
-use hops::place::Place;
+use machine_numbers::numbers::Numbers;
+use patch_reader::reader::Read;
+
+// What the steps leave beside the stacks and the slices.
+pub struct Ended {
+    pub answer: Answer,
+    pub steps: u32,
+    pub numbers: Numbers,
+}
 
 // Halted, or past the last of n ops.
-fn over(h: Place, n: usize) -> bool
+fn over(h: Numbers, n: usize) -> bool
     ensures { λ r. ⌜ r ≡ overOf h n ⌝ }
 {
     if h.halted {
@@ -21,83 +25,72 @@ fn over(h: Place, n: usize) -> bool
     n <= h.position
 }
 
-impl Machine {
-    // Steps until the machine is finished, the budget is spent or a step is refused.
-    pub(crate) fn go(
-        mut self,
-        kinds: &[u8],
-        counts: &[u16],
-        needs: &[u16],
-        places: &[u32],
-        bytes: &[u8],
-        register: &mut [u64],
-        tape: &mut [u64],
-        table: &mut [u16],
-        channel: &mut [u64],
-        input: &[u64],
-        output: &mut [u64],
-        budget: u32,
-    ) -> Ran
-        requires { ⌜ Going (now bytes) (now input) (code (now kinds) (now counts) (now needs) (now places) (now bytes)) (lent self (now register) (now tape) (now table) (now channel) (now output)) ⌝ }
-        ensures { λ r. ⌜ ranTo r (now (register .exit)) (now (tape .exit)) (now (table .exit)) (now (channel .exit)) (now (output .exit)) ≡ runOf budget 0 (code (now (kinds .entry)) (now (counts .entry)) (now (needs .entry)) (now (places .entry)) (now (bytes .entry))) (now (input .entry)) (lent self (now (register .entry)) (now (tape .entry)) (now (table .entry)) (now (channel .entry)) (now (output .entry))) ⌝ }
-    {
-        let mut partners = [0u16; 4096];
-        let mut calls = self.calls;
-        let mut refs = self.refs;
-        let mut h = self.place;
-        let mut steps: u32 = 0;
-        loop {
-            if over(h, kinds.len()) {
-                self.calls = calls;
-                self.refs = refs;
-                self.place = h;
-                return Ran {
-                    answer: Answer::Finished,
-                    steps: steps,
-                    machine: self,
-                };
-            }
-            if steps == budget {
-                self.calls = calls;
-                self.refs = refs;
-                self.place = h;
-                return Ran {
-                    answer: Answer::Spent,
-                    steps: steps,
-                    machine: self,
-                };
-            }
-            let with = searches::scan::look_up(kinds, &mut partners, h.position);
-            let out = machine_step::step::step(
-                h,
-                kinds,
-                counts,
-                needs,
-                places,
-                with,
-                bytes,
-                &mut calls,
-                &mut refs,
-                register,
-                tape,
-                table,
-                channel,
-                output,
-                input,
-            );
-            h = out.place;
-            let a = out.number;
-            if a != 0 {
-                self.calls = calls;
-                self.refs = refs;
-                self.place = h;
-                return Ran {
-                    answer: Answer::Refused(a),
-                    steps: steps,
-                    machine: self,
-                };
-            }
-            steps += 1;
+// Steps until the machine is finished, the budget is spent or a step is refused.
+pub fn go(
+    numbers: Numbers,
+    rows: &[u8],
+    counts: &[u16],
+    needs: &[u16],
+    payloads: &[u32],
+    bytes: &[u8],
+    calls: &mut [u16; Numbers::CALLS],
+    refs: &mut [u32; Numbers::REFS],
+    register: &mut [u64],
+    tape: &mut [u64],
+    table: &mut [u16],
+    channel: &mut [u64],
+    input: &[u64],
+    output: &mut [u64],
+    budget: u32,
+) -> Ended
+    requires { ⌜ ReadyToRun (now bytes) (now input) (code (now rows) (now counts) (now needs) (now payloads) (now bytes)) (held numbers (now calls) (now refs) (now register) (now tape) (now table) (now channel) (now output)) ⌝ }
+    ensures { λ r. ⌜ ran (r .answer) (r .steps) (held (r .numbers) (now (calls .exit)) (now (refs .exit)) (now (register .exit)) (now (tape .exit)) (now (table .exit)) (now (channel .exit)) (now (output .exit))) ≡ runOf budget 0 (code (now (rows .entry)) (now (counts .entry)) (now (needs .entry)) (now (payloads .entry)) (now (bytes .entry))) (now (input .entry)) (held numbers (now (calls .entry)) (now (refs .entry)) (now (register .entry)) (now (tape .entry)) (now (table .entry)) (now (channel .entry)) (now (output .entry))) ⌝ }
+{
+    let mut partners = [0u16; Read::OPS];
+    let mut h = numbers;
+    let mut steps: u32 = 0;
+    loop {
+        if over(h, rows.len()) {
+            return Ended {
+                answer: Answer::Finished,
+                steps,
+                numbers: h,
+            };
         }
+        if steps == budget {
+            return Ended {
+                answer: Answer::Spent,
+                steps,
+                numbers: h,
+            };
+        }
+        let with = searches::scan::look_up(rows, &mut partners, h.position);
+        let out = machine_step::step::step(
+            h,
+            rows,
+            counts,
+            needs,
+            payloads,
+            with,
+            bytes,
+            calls,
+            refs,
+            register,
+            tape,
+            table,
+            channel,
+            input,
+            output,
+        );
+        h = out.numbers;
+        let a = out.number;
+        if a != 0 {
+            return Ended {
+                answer: Answer::Refused(a),
+                steps,
+                numbers: h,
+            };
+        }
+        steps += 1;
     }
 }

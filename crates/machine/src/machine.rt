@@ -2,12 +2,12 @@
 ghost use mathlib.Core.Path.{_≡_};
 ghost use Rattle.machine.specs.Fresh.{freshOf};
 use answers::run::Answer;
-use hops::place::Place;
+use machine_numbers::numbers::Numbers;
 
 pub struct Machine {
-    pub calls: [u16; 256],
-    pub refs: [u32; 256],
-    pub place: Place,
+    pub calls: [u16; Numbers::CALLS],
+    pub refs: [u32; Numbers::REFS],
+    pub numbers: Numbers,
 }
 
 pub struct Stepped {
@@ -22,37 +22,39 @@ pub struct Ran {
 }
 
 impl Machine {
-    pub const FILE: usize = ops::limits::FILE_BYTES;
+    pub const FILE: usize = ops::records::Record::FILE;
 
-    pub const OPS: usize = ops::limits::OPS;
+    pub const OPS: usize = patch_reader::reader::Read::OPS;
 
-    pub const MARKS: usize = ops::limits::MARKS;
+    pub const MARKS: usize = patch_reader::reader::Read::MARKS;
 
-    pub const LANES: usize = ops::limits::LANES;
+    pub const LANES: usize = ops::records::Record::LANES;
 
-    pub const CALLS: usize = Place::CALLS;
+    pub const CALLS: usize = Numbers::CALLS;
 
-    pub const REFS: usize = Place::REFS;
+    pub const REFS: usize = Numbers::REFS;
 
-    pub const CHANNEL: usize = states::formed::CHANNEL;
+    pub const CHANNEL: usize = testing_device::device::Poked::CHANNEL;
 
-    pub const POINTER: usize = Place::POINTER;
+    pub const POINTER: usize = Numbers::POINTER;
 
-    pub const LENGTH: usize = Place::LENGTH;
+    pub const LENGTH: usize = Numbers::LENGTH;
+
+    pub const BUDGET: u32 = 0xffffffff;
 
     pub fn fresh() -> Machine
         ensures { λ r. ⌜ r ≡ freshOf ⌝ }
     {
         Machine {
-            calls: [0u16; 256],
-            refs: [0u32; 256],
-            place: Place {
+            calls: [0u16; Machine::CALLS],
+            refs: [0u32; Machine::REFS],
+            numbers: Numbers {
                 depth: 0,
                 saved: 0,
                 pointer: 0,
                 position: 0,
                 length: 0,
-                lanes: 1024,
+                lanes: Machine::LANES,
                 functions: 0,
                 first: 0,
                 waiting: 0,

@@ -1,4 +1,4 @@
--- Runs that the table of 01-scope.md lacks, computed from the model. one_table puts them behind 01's cases, as one list; `all` has them here
+-- Runs that the table of 01-scope.md lacks, computed from the model. demands puts them behind 01's cases, as one list; `all` has them here
 -- too, so that this crate refuses a step that is another. Assumes nothing.
 use Prim.Native.Nat.{ℕ, _-_, _^_}
 use mathlib.Core.Path.{_≡_, refl}
@@ -6,11 +6,11 @@ use mathlib.Core.List.{List, [], _∷_, _++_, map}
 use Rattle.lanes.specs.declared.lane.CellOp.the-variants.{Add}
 use Rattle.lanes.specs.declared.lane.LaneOp.the-variants.{Dec}
 use Rattle.ops.specs.declared.op.Mode.the-variants.{Char, Int, Other}
-use Rattle.ops.specs.Op.{Op}
-use Rattle.ops.specs.Op.Control.{function, call, ret, while, if, else, end}
-use Rattle.ops.specs.Op.Plain.{store, move, locate, offset, deref, refer, cell, lane, get, put, peek, poke, alloc}
-use Rattle.ops.specs.Op.Sort.{ints}
-use Rattle.ops.specs.Op.Op.{control, set, load, plain}
+use Rattle.ops.specs.Syntax.{Op}
+use Rattle.ops.specs.Syntax.Control.{function, call, ret, while, if, else, end}
+use Rattle.ops.specs.Syntax.Plain.{store, move, locate, offset, deref, refer, cell, lane, get, put, peek, poke, alloc}
+use Rattle.ops.specs.Syntax.Sort.{ints}
+use Rattle.ops.specs.Syntax.Op.{control, set, load, plain}
 use Rattle.machine_model.specs.State.{fresh, withTape, lane0}
 use Rattle.machine_model.specs.Run.{Answer, run}
 

@@ -57,6 +57,9 @@ module _ (P : ℕ → Type 0) where
   each-zip f h (suc n) (x ∷ xs) [] a b = a
   each-zip f h (suc n) (x ∷ xs) (y ∷ ys) a b = (h x y (a .0) (b .0), each-zip f h n xs ys (a .1) (b .1))
 
+-- the parts of a list, a list put together, and an element anew
+pub ruleset each-part = (each-append, each-end, each-take, each-drop, each-set)
+
 pub each-to : (P Q : ℕ → Type 0) → ((x : ℕ) → P x → Q x) → (xs : List ℕ) → Each P xs → Each Q xs
 each-to P Q h [] a = tt
 each-to P Q h (x ∷ xs) a = (h x (a .0), each-to P Q h xs (a .1))

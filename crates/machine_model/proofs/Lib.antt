@@ -3,6 +3,7 @@ pub mod Scans
 pub mod Stacks
 pub mod Table
 pub mod Outcomes
+pub mod Effects
 pub mod Kept
 pub mod WordsKept
 pub mod Refused

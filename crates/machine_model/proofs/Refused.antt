@@ -2,11 +2,11 @@
 use Prim.Native.Nat.{ℕ, zero, suc, _+_, _≤_, _<_}
 use native.Mathlib.Omega.{arith}
 use mathlib.Core.Path.{_≡_, refl, ap, sym, subst}
+use Rattle.basics.proofs.Clash.{clash}
 use Rattle.machine_model.specs.State.{State, Given}
 use Rattle.machine_model.specs.Step.{Outcome, step}
 use Rattle.machine_model.specs.Step.Outcome.{finished, refused, next}
 use Rattle.machine_model.specs.Run.{Answer, answer, drive, run}
-use Rattle.machine_model.proofs.Scans.{clash}
 
 -- k steps, none of them refused, lead from a state to a state
 pub data Reaches (g : Given) : ℕ → State → State → Type 0 where

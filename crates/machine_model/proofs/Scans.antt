@@ -1,26 +1,27 @@
--- Where a search arrives: the places that it gives lie in the patch, and the k-th mark is one. Assumes nothing.
+-- Where a search arrives: the places that it gives lie in the patch and are those of control ops, and the k-th mark is one. Assumes nothing.
 use Prim.Native.Nat.{ℕ, zero, suc, _+_, _<_}
 use native.Mathlib.Omega.{arith}
 use mathlib.Core.Path.{_≡_, refl, ap, sym, _∙_}
 use mathlib.Core.Bool.{Bool, true, false}
 use mathlib.Core.List.{List, [], _∷_}
-use mathlib.Core.Option.{some}
-use lib.ListN.{length, getD}
-use Rattle.ops.specs.Op.{Op, Mark, mark, isFunction, isWhile}
-use Rattle.ops.specs.Op.Op.{plain}
-use Rattle.ops.specs.Op.Plain.{comment}
-use Rattle.ops.specs.Op.Mark.{up, down, mid, flat}
-pub use Rattle.ops.proofs.Clash.{clash}
-use Rattle.machine_model.specs.Scan.{opAt, marks, functions, toEnd, toElse, kth}
+use mathlib.Core.Option.{Option, none, some}
+use lib.ListN.{length, getD, drop}
+use lib.Seq.{getD-drop}
+use Rattle.ops.specs.Syntax.{Op, Plain, Sort, Bracket, bracket, isFunction, isWhile}
+use Rattle.ops.specs.Syntax.Op.{control, set, load, plain}
+use Rattle.ops.specs.Syntax.Plain.{comment}
+use Rattle.ops.specs.Syntax.Bracket.{up, down, mid, flat}
+use Rattle.basics.proofs.Clash.{clash}
+use Rattle.machine_model.specs.Scan.{opAt, brackets, functions, toEnd, toElse, kth}
 
-pub length-marks : (os : List Op) → length (marks os) ≡ length os
-length-marks [] = refl
-length-marks (o ∷ os) = ap suc (length-marks os)
+pub length-brackets : (os : List Op) → length (brackets os) ≡ length os
+length-brackets [] = refl
+length-brackets (o ∷ os) = ap suc (length-brackets os)
 
-pub marks-at : (os : List Op) (i : ℕ) → getD (marks os) i flat ≡ mark (opAt os i)
-marks-at [] i = refl
-marks-at (o ∷ os) zero = refl
-marks-at (o ∷ os) (suc i) = marks-at os i
+pub brackets-at : (os : List Op) (i : ℕ) → getD (brackets os) i flat ≡ bracket (opAt os i)
+brackets-at [] i = refl
+brackets-at (o ∷ os) zero = refl
+brackets-at (o ∷ os) (suc i) = brackets-at os i
 
 pub functions-at : (os : List Op) (i : ℕ) → getD (functions os) i false ≡ isFunction (opAt os i)
 functions-at [] i = refl
@@ -29,24 +30,60 @@ functions-at (o ∷ os) (suc i) = functions-at os i
 
 -- ---- brackets
 
-pub end-below : (p d : ℕ) (ms : List Mark) (j : ℕ) → toEnd p d ms ≡ some j → j < p + length ms
-unfolding toEnd
-end-below p d [] j e = clash (cc)
-end-below p d (up ∷ ms) j e = omega (arith, end-below (suc p) (suc d) ms j e)
-end-below p zero (down ∷ ms) j e = let q : p ≡ j = cc in omega arith
-end-below p (suc d) (down ∷ ms) j e = omega (arith, end-below (suc p) d ms j e)
-end-below p d (mid ∷ ms) j e = omega (arith, end-below (suc p) d ms j e)
-end-below p d (flat ∷ ms) j e = omega (arith, end-below (suc p) d ms j e)
+-- a mark of a bracket or an Else
+abbrev pub bent : Bracket → Bool
+bent up = true
+bent down = true
+bent mid = true
+bent flat = false
 
-pub else-below : (p d : ℕ) (ms : List Mark) (j : ℕ) → toElse p d ms ≡ some j → j < p + length ms
-unfolding toElse
-else-below p d [] j e = clash (cc)
-else-below p d (up ∷ ms) j e = omega (arith, else-below (suc p) (suc d) ms j e)
-else-below p zero (down ∷ ms) j e = let q : p ≡ j = cc in omega arith
-else-below p (suc d) (down ∷ ms) j e = omega (arith, else-below (suc p) d ms j e)
-else-below p zero (mid ∷ ms) j e = let q : p ≡ j = cc in omega arith
-else-below p (suc d) (mid ∷ ms) j e = omega (arith, else-below (suc p) (suc d) ms j e)
-else-below p d (flat ∷ ms) j e = omega (arith, else-below (suc p) d ms j e)
+-- what a search that starts at p gives: no place, and then L, or the place of such a mark
+pub data Seeks (p : ℕ) (ms : List Bracket) (L : Type 0) : Option ℕ → Type 0 where
+  nowhere : L → Seeks p ms L none
+  arrives : {j : ℕ} (i : ℕ) → j ≡ p + i → bent (getD ms i flat) ≡ true → Seeks p ms L (some j)
+
+module _ (p : ℕ) (m : Bracket) (ms : List Bracket) {L : Type 0} where
+  first : bent m ≡ true → Seeks p (m ∷ ms) L (some p)
+  first b = arrives {j = p} 0 (omega arith) b
+
+  later : (r : Option ℕ) → Seeks (suc p) ms L r → Seeks p (m ∷ ms) L r
+  later _ (nowhere l) = nowhere l
+  later _ (arrives {j = j} i e b) = arrives {j = j} (suc i) (omega arith) b
+
+pub end-seeks : (p d : ℕ) (ms : List Bracket) → Seeks p ms (toEnd p d ms ≡ none) (toEnd p d ms)
+unfolding toEnd
+end-seeks p d [] = nowhere refl
+end-seeks p d (up ∷ ms) = later p up ms _ (end-seeks (suc p) (suc d) ms)
+end-seeks p zero (down ∷ ms) = first p down ms refl
+end-seeks p (suc d) (down ∷ ms) = later p down ms _ (end-seeks (suc p) d ms)
+end-seeks p d (mid ∷ ms) = later p mid ms _ (end-seeks (suc p) d ms)
+end-seeks p d (flat ∷ ms) = later p flat ms _ (end-seeks (suc p) d ms)
+
+-- where it finds no Else, it finds no End either
+pub else-seeks : (p d : ℕ) (ms : List Bracket) → Seeks p ms (toEnd p d ms ≡ none) (toElse p d ms)
+unfolding toElse toEnd
+else-seeks p d [] = nowhere refl
+else-seeks p d (up ∷ ms) = later p up ms _ (else-seeks (suc p) (suc d) ms)
+else-seeks p zero (down ∷ ms) = first p down ms refl
+else-seeks p (suc d) (down ∷ ms) = later p down ms _ (else-seeks (suc p) d ms)
+else-seeks p zero (mid ∷ ms) = first p mid ms refl
+else-seeks p (suc d) (mid ∷ ms) = later p mid ms _ (else-seeks (suc p) (suc d) ms)
+else-seeks p d (flat ∷ ms) = later p flat ms _ (else-seeks (suc p) d ms)
+
+bent-below : (ms : List Bracket) (i : ℕ) → bent (getD ms i flat) ≡ true → i < length ms
+bent-below [] i e = clash (cc)
+bent-below (m ∷ ms) zero e = omega arith
+bent-below (m ∷ ms) (suc i) e = omega (arith, bent-below ms i e)
+
+seeks-below : (p : ℕ) (ms : List Bracket) (L : Type 0) (r : Option ℕ) (j : ℕ) → Seeks p ms L r → r ≡ some j → j < p + length ms
+seeks-below p ms L _ j (nowhere l) e = clash (cc)
+seeks-below p ms L _ j (arrives {j = k} i q b) e = let z : k ≡ j = cc in omega (arith, bent-below ms i b)
+
+pub end-below : (p d : ℕ) (ms : List Bracket) (j : ℕ) → toEnd p d ms ≡ some j → j < p + length ms
+end-below p d ms j e = seeks-below p ms _ _ j (end-seeks p d ms) e
+
+pub else-below : (p d : ℕ) (ms : List Bracket) (j : ℕ) → toElse p d ms ≡ some j → j < p + length ms
+else-below p d ms j e = seeks-below p ms _ _ j (else-seeks p d ms) e
 
 -- ---- tests of an op
 
@@ -59,8 +96,39 @@ place-below f n (o ∷ os) (suc i) e = omega (arith, place-below f n os i e)
 pub function-below : (os : List Op) (i : ℕ) → isFunction (opAt os i) ≡ true → i < length os
 function-below = place-below isFunction refl
 
-pub while-below : (os : List Op) (i : ℕ) → isWhile (opAt os i) ≡ true → i < length os
-while-below = place-below isWhile refl
+-- ---- control ops
+
+abbrev pub isControl : Op → Bool
+isControl (control c) = true
+isControl (set k vs) = false
+isControl (load n) = false
+isControl (plain p) = false
+
+-- a control op is at the place
+abbrev pub Landing : List Op → ℕ → Type 0
+Landing os j = isControl (opAt os j) ≡ true
+
+pub landing-below : (os : List Op) (j : ℕ) → Landing os j → j < length os
+landing-below = place-below isControl refl
+
+-- where the op passes a test that only control ops pass
+module _ (f : Op → Bool) (fs : (k : Sort) (vs : List ℕ) → f (set k vs) ≡ false) (fl : (n : ℕ) → f (load n) ≡ false) (fp : (p : Plain) → f (plain p) ≡ false) where
+  is-control : (o : Op) → f o ≡ true → isControl o ≡ true
+  is-control (control c) e = refl
+  is-control (set k vs) e = sym (fs k vs) ∙ e
+  is-control (load n) e = sym (fl n) ∙ e
+  is-control (plain p) e = sym (fp p) ∙ e
+
+pub function-lands : (os : List Op) (j : ℕ) → isFunction (opAt os j) ≡ true → Landing os j
+function-lands os j = is-control isFunction (λ k vs. refl) (λ n. refl) (λ p. refl) (opAt os j)
+
+pub while-lands : (os : List Op) (j : ℕ) → isWhile (opAt os j) ≡ true → Landing os j
+while-lands os j = is-control isWhile (λ k vs. refl) (λ n. refl) (λ p. refl) (opAt os j)
+
+pub mark-lands : (os : List Op) (p i j : ℕ) → j ≡ p + i → bent (getD (drop p (brackets os)) i flat) ≡ true → Landing os j
+mark-lands os p i j e t =
+    is-control (λ o. bent (bracket o)) (λ k vs. refl) (λ n. refl) (λ p. refl) (opAt os j)
+    (rw e (ap bent (sym (brackets-at os (p + i)) ∙ sym (getD-drop p (brackets os) i flat)) ∙ t))
 
 -- ---- the k-th mark
 

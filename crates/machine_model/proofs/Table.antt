@@ -8,13 +8,14 @@ use mathlib.Core.Bool.{Bool, true, false, cond}
 use mathlib.Core.List.{List, [], _∷_}
 use lib.Dec.{ltb, eqb}
 use lib.ListN.{length, getD}
+use Rattle.basics.proofs.Clash.{clash}
 use Rattle.machine_model.specs.State.{Given}
 use Rattle.machine_model.specs.Scan.{functions}
 use Rattle.machine_model.specs.Step.{enter}
 use Rattle.machine_model.specs.Formed.{Each, Rising, Marked}
 use Rattle.machine_model.specs.Limited.{count}
 use Rattle.machine_model.proofs.Each.{each-to}
-use Rattle.machine_model.proofs.Scans.{clash, functions-at}
+use Rattle.machine_model.proofs.Scans.{functions-at}
 
 pub each-enter : (P : ℕ → Type 0) (p : ℕ) (xs : List ℕ) → P p → Each P xs → Each P (enter p xs)
 unfolding enter

@@ -4,7 +4,7 @@ use mathlib.Core.Path.{_≡_}
 use mathlib.Core.Bool.{true}
 use mathlib.Core.List.{List, [], _∷_}
 use lib.ListN.{length}
-use Rattle.ops.specs.Op.{isFunction}
+use Rattle.ops.specs.Syntax.{isFunction}
 use Rattle.machine_model.specs.State.{State, Given, mostMarks, lanes, depth, farthest, longest}
 use Rattle.machine_model.specs.Scan.{opAt}
 

@@ -3,7 +3,7 @@ use Prim.Native.Nat.{ℕ, suc, _≤_}
 use mathlib.Core.Bool.{Bool, true, false}
 use mathlib.Core.List.{List, [], _∷_}
 use lib.ListN.{length}
-use Rattle.ops.specs.Op.{Op}
+use Rattle.ops.specs.Syntax.{Op}
 use Rattle.ops.specs.Write.{Fits}
 use Rattle.machine_model.specs.State.{mostOps, mostMarks}
 use Rattle.machine_model.specs.Scan.{opAt, functions}

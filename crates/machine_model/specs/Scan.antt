@@ -5,19 +5,19 @@ use mathlib.Core.Bool.{Bool, true, false}
 use mathlib.Core.List.{List, [], _∷_}
 use mathlib.Core.Option.{Option, none, some}
 use lib.ListN.{length, getD}
-use Rattle.ops.specs.Op.{Op, Mark, mark, isFunction}
-use Rattle.ops.specs.Op.Op.{plain}
-use Rattle.ops.specs.Op.Plain.{comment}
-use Rattle.ops.specs.Op.Mark.{up, down, mid, flat}
+use Rattle.ops.specs.Syntax.{Op, Bracket, bracket, isFunction}
+use Rattle.ops.specs.Syntax.Op.{plain}
+use Rattle.ops.specs.Syntax.Plain.{comment}
+use Rattle.ops.specs.Syntax.Bracket.{up, down, mid, flat}
 
 -- the op at a place; beyond the last, one that does nothing
 abbrev pub opAt : List Op → ℕ → Op
 opAt os i = getD os i (plain (comment []))
 
 -- what each op is to a scan
-abbrev pub marks : List Op → List Mark
-marks [] = []
-marks (o ∷ os) = mark o ∷ marks os
+abbrev pub brackets : List Op → List Bracket
+brackets [] = []
+brackets (o ∷ os) = bracket o ∷ brackets os
 
 -- which ops are Function marks
 abbrev pub functions : List Op → List Bool
@@ -25,7 +25,7 @@ functions [] = []
 functions (o ∷ os) = isFunction o ∷ functions os
 
 -- the End that closes d + 1 brackets; p is the place of the list's first
-unfoldable pub toEnd : ℕ → ℕ → List Mark → Option ℕ
+unfoldable pub toEnd : ℕ → ℕ → List Bracket → Option ℕ
 toEnd p d [] = none
 toEnd p d (up ∷ ms) = toEnd (suc p) (suc d) ms
 toEnd p zero (down ∷ ms) = some p
@@ -34,7 +34,7 @@ toEnd p d (mid ∷ ms) = toEnd (suc p) d ms
 toEnd p d (flat ∷ ms) = toEnd (suc p) d ms
 
 -- the same, or "its Else at depth 1" if that is met first
-unfoldable pub toElse : ℕ → ℕ → List Mark → Option ℕ
+unfoldable pub toElse : ℕ → ℕ → List Bracket → Option ℕ
 toElse p d [] = none
 toElse p d (up ∷ ms) = toElse (suc p) (suc d) ms
 toElse p zero (down ∷ ms) = some p
@@ -44,7 +44,7 @@ toElse p (suc d) (mid ∷ ms) = toElse (suc p) (suc d) ms
 toElse p d (flat ∷ ms) = toElse (suc p) d ms
 
 -- an End's partner: backwards over the ops before it, the nearest first
-unfoldable pub toOpen : ℕ → List Mark → Option ℕ
+unfoldable pub toOpen : ℕ → List Bracket → Option ℕ
 toOpen d [] = none
 toOpen zero (up ∷ ms) = some (length ms)
 toOpen (suc d) (up ∷ ms) = toOpen d ms

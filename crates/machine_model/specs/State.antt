@@ -1,38 +1,11 @@
--- The machine's limits, its state, its fresh state, and the changes of a state. Assumes nothing.
+-- The machine's state, its fresh state, and the changes of a state. Assumes nothing.
 use Prim.Native.Nat.{ℕ, suc}
 use mathlib.Core.Bool.{Bool, true, false}
 use mathlib.Core.List.{List, []}
 use lib.ListN.{replicate, getD}
 use lib.ListN
-use Rattle.ops.specs.Op.{Op}
-
--- ---- "Limits, each the last accepted"
-
--- "4,096 ops"
-abbrev pub mostOps : ℕ
-mostOps = 4096
-
--- "256 Function marks"
-abbrev pub mostMarks : ℕ
-mostMarks = 256
-
--- "1,024 lanes"
-abbrev pub lanes : ℕ
-lanes = 1024
-
--- "calls, refs and channel 256 each"
-abbrev pub depth : ℕ
-depth = 256
-
--- "pointer 1,000,000,000"
-abbrev pub farthest : ℕ
-farthest = 1_000_000_000
-
--- "counted tape length 2,000,000,000"
-abbrev pub longest : ℕ
-longest = 2_000_000_000
-
--- ---- the state
+pub use Rattle.basics.specs.Limits.{mostOps, mostMarks, lanes, depth, farthest, longest}
+use Rattle.ops.specs.Syntax.{Op}
 
 -- what a run is given and does not change: the ops, the input values, and the room for outputs
 pub record Given : Type 0 where

@@ -6,18 +6,23 @@ use mathlib.Core.List.{List, [], _∷_, _++_, reverse}
 use mathlib.Core.Option.{Option, none, some}
 use lib.Dec.{leb, ltb, eqb}
 use lib.ListN.{length, take, drop, getD}
+unfoldable pub use Rattle.basics.specs.Pick.{pick}
 use Rattle.lanes.specs.Int.{intAdd}
 use Rattle.lanes.specs.Lane.{cellRule, laneRule}
 use Rattle.lane_loops.specs.Loops.{zipTo, mapTo}
-use Rattle.ops.specs.Op.{Op, Control, Plain, needs, isWhile}
-use Rattle.ops.specs.Op.Control.{function, call, ret, while, if, else, end}
-use Rattle.ops.specs.Op.Plain.{comment, store, move, swap, locate, offset, deref, refer, cell, lane, get, put, peek, poke, alloc, free}
-use Rattle.ops.specs.Op.Op.{control, set, load, plain}
+use Rattle.ops.specs.Syntax.{Op, Control, Plain, needs, isWhile}
+use Rattle.ops.specs.Syntax.Control.{function, call, ret, while, if, else, end}
+use Rattle.ops.specs.Syntax.Plain.{comment, store, move, swap, locate, offset, deref, refer, cell, lane, get, put, peek, poke, alloc, free}
+use Rattle.ops.specs.Syntax.Op.{control, set, load, plain}
 use Rattle.testing_device.specs.Device.{getOf, putOf}
+use Rattle.testing_device.specs.Answers.{gotNumber, putNumber, peekedNumber, pokedNumber}
 use Rattle.testing_device.specs.declared.device.Got.{Got}
-use Rattle.testing_device.specs.declared.device.Got.the-variants.{Value, Empty}
+use Rattle.testing_device.specs.declared.device.Got.the-variants as got
+use Rattle.testing_device.specs.declared.device.Put.the-variants as put
+use Rattle.testing_device.specs.declared.device.Peeked.the-variants as peeked
+use Rattle.testing_device.specs.declared.device.Poked.the-variants as poked
 use Rattle.machine_model.specs.State.{State, Given, depth, farthest, longest, lane0, goTo, withPointer, withCounted, withReg, withTape, withTable, withCalls, withRefs, withChannel, withTaken, withOuts, halt, on, setLane}
-use Rattle.machine_model.specs.Scan.{opAt, marks, functions, toEnd, toElse, toOpen, kth}
+use Rattle.machine_model.specs.Scan.{opAt, brackets, functions, toEnd, toElse, toOpen, kth}
 
 -- what a step gives: the machine is finished, it is refused with a number, or it goes on in the next state
 pub data Outcome : Type 0 where
@@ -29,11 +34,6 @@ pub data Outcome : Type 0 where
 unfoldable pub bar : Bool → ℕ → Outcome → Outcome
 bar true n o = refused n
 bar false n o = o
-
--- the first where the test holds, else the second
-unfoldable pub pick : Bool → Outcome → Outcome → Outcome
-pick true a b = a
-pick false a b = b
 
 -- below 0 as an integer
 abbrev pub minus : ℕ → Bool
@@ -53,10 +53,10 @@ jump s (some p) = next (goTo s (suc p))
 
 -- the enclosing End, and an If's Else or End, from the op after the position on
 abbrev pub endOf : Given → State → Option ℕ
-endOf g s = toEnd (suc (s .at)) 0 (drop (suc (s .at)) (marks (g .ops)))
+endOf g s = toEnd (suc (s .at)) 0 (drop (suc (s .at)) (brackets (g .ops)))
 
 abbrev pub elseOf : Given → State → Option ℕ
-elseOf g s = toElse (suc (s .at)) 0 (drop (suc (s .at)) (marks (g .ops)))
+elseOf g s = toElse (suc (s .at)) 0 (drop (suc (s .at)) (brackets (g .ops)))
 
 -- "Save this place; continue after the mark"
 abbrev pub called : State → ℕ → State
@@ -94,7 +94,7 @@ turn g if s = pick (eqb (lane0 s) 0) (jump s (elseOf g s)) (next (on s))
 turn g while s = pick (eqb (lane0 s) 0) (jump s (endOf g s)) (next (on s))
 turn g else s = jump s (endOf g s)
 -- "21; lane 0 not zero and its partner a While"
-turn g end s = pick (eqb (lane0 s) 0) (next (on s)) (again g s (toOpen 0 (reverse (take (s .at) (marks (g .ops))))))
+turn g end s = pick (eqb (lane0 s) 0) (next (on s)) (again g s (toOpen 0 (reverse (take (s .at) (brackets (g .ops))))))
 
 -- ---- the tape
 
@@ -139,16 +139,16 @@ grown n = cond (ltb n 30_000) (n + 30_000) n
 
 -- what Get gives, or 35
 abbrev pub gotten : State → Got → Outcome
-gotten s Empty = refused 35
-gotten s (Value v place) = next (on (withTaken (setLane s v) place))
+gotten s got.Empty = refused (gotNumber got.Empty)
+gotten s (got.Value v place) = next (on (withTaken (setLane s v) place))
 
 -- outputs, "all or none": 36
 abbrev pub write : Given → State → List ℕ → Outcome
-write g s vs = bar (ltb (g .room) (length (s .outs) + length vs)) 36 (next (on (withOuts s (s .outs ++ vs))))
+write g s vs = bar (ltb (g .room) (length (s .outs) + length vs)) (putNumber put.NoRoom) (next (on (withOuts s (s .outs ++ vs))))
 
 -- the channel's oldest value, or 33
 abbrev pub peekAt : State → List ℕ → Outcome
-peekAt s [] = refused 33
+peekAt s [] = refused (peekedNumber peeked.Empty)
 peekAt s (v ∷ vs) = next (on (withChannel (setLane s v) vs))
 
 -- ---- the ops that keep the register's length
@@ -182,7 +182,7 @@ act g alloc s =
 act g (get m) s = gotten s (getOf m (g .input) (s .taken))
 act g (put m) s = write g s (putOf m (lane0 s))
 act g peek s = peekAt s (s .channel)
-act g poke s = bar (leb depth (length (s .channel))) 34 (next (on (withChannel s (s .channel ++ (lane0 s ∷ [])))))
+act g poke s = bar (leb depth (length (s .channel))) (pokedNumber poked.Full) (next (on (withChannel s (s .channel ++ (lane0 s ∷ [])))))
 -- "Where: 21; pointer to lane 0. Lane-only ops: 21"
 act g locate s = next (on (setLane s (s .pointer)))
 act g (lane k n) s = next (on (withReg s (mapTo (laneRule k) n (s .reg))))

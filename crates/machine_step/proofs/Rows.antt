@@ -1,32 +1,24 @@
 -- The one row of Offset's family. Assumes nothing.
-use mathlib.Core.Path.{_≡_, refl}
-use mathlib.Core.Bool.{Bool, true, false}
+use mathlib.Core.Path.{_≡_, _∙_, sym, subst}
+use mathlib.Core.Bool.{Bool, true, cond}
 use Prim.Native.Nat.{ℕ}
 use native.Mathlib.Omega.{arith}
-use borrow.Author.Tests.{eqb-true, eqb-false}
-use lib.Dec.{eqb}
-use Rattle.hops.specs.Place.{pick}
-use Rattle.machine_step.specs.Family.{familyOf, among, controlRows, cellRows, laneRows, deviceRows}
+use borrow.Author.Tests.{ltb-true, ltb-false}
+use lib.Dec.{T, ltb, eqb, eqb→eq}
+use lib.ListN.{List·getD-eq-default}
+use Rattle.basics.proofs.Tables.{at}
+use Rattle.basics.proofs.Tests.{byCase}
+use Rattle.kind_table.specs.Rows as row
+use Rattle.kind_table.specs.Columns.{tapeFamily, offsetFamily}
+use Rattle.kind_table.specs.Kinds.{families, familyOf}
 
--- a test whose first answer is another family's
-past : (b : Bool) (x y : ℕ) → eqb x 5 ≡ false → pick b x y ≡ 5 → y ≡ 5
-unfolding pick
-past true x y n e = absurd (eqb-false x 5 n e)
-past false x y n e = e
+-- row k with family f is Offset's, or f is another family
+only : ℕ → ℕ → Bool
+only k f = cond (eqb f offsetFamily) (eqb k row.offset) true
 
--- the test whose first answer is this family, where no later answer is
-found : (b : Bool) (y : ℕ) → pick b 5 y ≡ 5 → (y ≡ 5 → ⊥) → b ≡ true
-unfolding pick
-found true y e n = refl
-found false y e n = absurd (n e)
-
-none-left : _≡_ {A = ℕ} 0 5 → ⊥
-none-left e = omega arith
-
-pub offset-row : (k : ℕ) → familyOf k ≡ 5 → k ≡ 16
-unfolding familyOf pick
+pub offset-row : (k : ℕ) → familyOf k ≡ offsetFamily → k ≡ row.offset
+unfolding familyOf only
 offset-row k e =
-    eqb-true k 16
-    (found (eqb k 16) _
-    (past (among k deviceRows) 4 _ refl (past (among k laneRows) 3 _ refl (past (among k cellRows) 2 _ refl (past (among k controlRows) 1 _ refl e))))
-    (λ f. none-left (past (eqb k 36) 6 _ refl f)))
+    byCase (ltb k 62)
+    (λ h. let t = at only tapeFamily families tt k (ltb-true k 62 h) in eqb→eq k row.offset (subst (λ (f : ℕ). T (only k f)) e t))
+    (λ h. absurd (omega (arith, sym (List·getD-eq-default families tapeFamily (ltb-false k 62 h)) ∙ e)))

@@ -1,4 +1,4 @@
 pub mod Held
-pub mod Family
-pub mod Fine
+pub mod Payloads
+pub mod CanStep
 pub mod Step

@@ -1,3 +1,3 @@
-pub mod Clash
 pub mod Room
 pub mod AnyFile
+pub mod Cases

@@ -1,6 +1,6 @@
-pub mod Op
+pub mod Syntax
 pub mod Refusals
 pub mod Record
 pub mod Patch
-pub mod Ops
+pub mod Decode
 pub mod Write

@@ -4,6 +4,8 @@ use mathlib.Core.Bool.{cond}
 use mathlib.Core.List.{List, [], _∷_}
 use lib.ListN.{length}
 use lib.Dec.{ltb, eqb}
+use Rattle.basics.specs.Limits.{mostBytes, mostOps, mostMarks}
+use Rattle.kind_table.specs.Rows as row
 use Rattle.kind_table.specs.Kinds.{runNeed}
 use Rattle.ops.specs.Refusals.{numberOf}
 use Rattle.ops.specs.Record.{recordAt}
@@ -14,25 +16,25 @@ use Rattle.ops.specs.declared.records.Record.the-variants.{Whole, Bad}
 
 -- an op as it is read: the row of its kind, what its payload counts, and its payload's first byte
 pub record Item : Type 0 where
-  pub kind : ℕ
+  pub row : ℕ
   pub count : ℕ
-  pub place : ℕ
+  pub payload : ℕ
 
 abbrev pub item : ℕ → ℕ → ℕ → Item
-item k n p = record { kind = k; count = n; place = p }
+item k n p = record { row = k; count = n; payload = p }
 
-abbrev pub kindIn : Item → ℕ
-kindIn i = i .kind
+abbrev pub rowIn : Item → ℕ
+rowIn i = i .row
 
 abbrev pub countIn : Item → ℕ
 countIn i = i .count
 
-abbrev pub placeIn : Item → ℕ
-placeIn i = i .place
+abbrev pub payloadIn : Item → ℕ
+payloadIn i = i .payload
 
 -- the lanes that a run of it needs
 abbrev pub needIn : Item → ℕ
-needIn i = runNeed (i .kind) (i .count)
+needIn i = runNeed (i .row) (i .count)
 
 -- the ops before the first refusal, and that refusal's number and place; 0 where there is none
 pub record Loaded : Type 0 where
@@ -51,12 +53,12 @@ push i l = record { items = i ∷ l .items; number = l .number; place = l .place
 
 -- 1 for a Function mark
 unfoldable pub markOf : ℕ → ℕ
-markOf k = cond (eqb k 2) 1 0
+markOf k = cond (eqb k row.function) 1 0
 
 -- the record at p after m marks, and what follows it: "256 Function marks"
 abbrev pub onRecord : Record → ℕ → ℕ → (ℕ → ℕ → Loaded) → Loaded
 onRecord (Bad r q) p m rest = stop r q
-onRecord (Whole k b l n next) p m rest = cond (ltb 256 (m + markOf k)) (stop TooManyMarks p) (push (item k n b) (rest (m + markOf k) next))
+onRecord (Whole k b l n next) p m rest = cond (ltb mostMarks (m + markOf k)) (stop TooManyMarks p) (push (item k n b) (rest (m + markOf k) next))
 
 -- the same where no more op may stand: a bad record gives its own number
 abbrev pub onFull : Record → ℕ → Loaded
@@ -70,4 +72,4 @@ walk s (suc left) m p = cond (ltb p (length s)) (onRecord (recordAt s p) p m (wa
 
 -- "file 65,536 bytes; 4,096 ops", "9 first"
 unfoldable pub patchOf : List ℕ → Loaded
-patchOf s = cond (ltb 65536 (length s)) (stop FileTooLong 0) (walk s 4096 0 0)
+patchOf s = cond (ltb mostBytes (length s)) (stop FileTooLong 0) (walk s mostOps 0 0)

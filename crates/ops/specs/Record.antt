@@ -4,41 +4,43 @@ use mathlib.Core.Bool.{Bool, cond, not}
 use mathlib.Core.List.{List}
 use lib.ListN.{length}
 use lib.Dec.{ltb, leb, eqb}
+use Rattle.basics.specs.Limits.{mostBytes, lanes, mostText}
 use Rattle.byte_fields.specs.Bytes.{u16At, u32At}
+use Rattle.kind_table.specs.Columns.{text, values, laneCount, amount, amountAndLanes, mode, leftOut}
 use Rattle.kind_table.specs.Kinds.{shape, kindAt, indexOf}
 use Rattle.ops.specs.declared.refusals.Refusal.the-variants.{CutShort, WrongLength, UnknownKind, LeftOut, TooManyLanes, WrongMode, FileTooLong}
 use Rattle.ops.specs.declared.records.Record.{Record}
 use Rattle.ops.specs.declared.records.Record.the-variants.{Whole, Bad}
 
 -- "Payloads: lane count u32; Move i64; Offset i64 then u32; either Set 8 bytes a value; Comment 0 to 255 bytes; Get and
--- Put u16 mode; the rest empty": whether a payload of this shape may have len bytes
+-- Put u16 mode .. the rest empty": whether a payload of this shape may have len bytes
 unfoldable pub lengthOk : ℕ → ℕ → Bool
 lengthOk form len =
-    cond (eqb form 1) (leb len 255)
-    (cond (eqb form 2) (eqb (len % 8) 0)
-    (cond (eqb form 3) (eqb len 4)
-    (cond (eqb form 4) (eqb len 8)
-    (cond (eqb form 5) (eqb len 12)
-    (cond (eqb form 6) (eqb len 2) (eqb len 0))))))
+    cond (eqb form text) (leb len mostText)
+    (cond (eqb form values) (eqb (len % 8) 0)
+    (cond (eqb form laneCount) (eqb len 4)
+    (cond (eqb form amount) (eqb len 8)
+    (cond (eqb form amountAndLanes) (eqb len 12)
+    (cond (eqb form mode) (eqb len 2) (eqb len 0))))))
 
 -- what the payload at byte p counts: a comment's bytes, a Set's values, or lanes
 unfoldable pub countOf : List ℕ → ℕ → ℕ → ℕ → ℕ
 countOf s form p len =
-    cond (eqb form 1) len
-    (cond (eqb form 2) (len / 8)
-    (cond (eqb form 3) (u32At s p)
-    (cond (eqb form 5) (u32At s (p + 8)) 0)))
+    cond (eqb form text) len
+    (cond (eqb form values) (len / 8)
+    (cond (eqb form laneCount) (u32At s p)
+    (cond (eqb form amountAndLanes) (u32At s (p + 8)) 0)))
 
 -- the mode that the payload at byte p names; 0 where it names none
 unfoldable pub modeOf : List ℕ → ℕ → ℕ → ℕ
-modeOf s form p = cond (eqb form 6) (u16At s p) 0
+modeOf s form p = cond (eqb form mode) (u16At s p) 0
 
 -- the record at byte p of row k with a payload of len bytes: "4 by kind, payload length 2, 5, 6, 4 by mode"
 unfoldable pub bodyAt : List ℕ → ℕ → ℕ → ℕ → Record
 bodyAt s p k len =
-    cond (eqb (shape (kindAt k)) 7) (Bad LeftOut p)
+    cond (eqb (shape (kindAt k)) leftOut) (Bad LeftOut p)
     (cond (not (lengthOk (shape (kindAt k)) len)) (Bad WrongLength p)
-    (cond (ltb 1024 (countOf s (shape (kindAt k)) (p + 6) len)) (Bad TooManyLanes p)
+    (cond (ltb lanes (countOf s (shape (kindAt k)) (p + 6) len)) (Bad TooManyLanes p)
     (cond (ltb 3 (modeOf s (shape (kindAt k)) (p + 6))) (Bad WrongMode p)
     (cond (eqb (modeOf s (shape (kindAt k)) (p + 6)) 2) (Bad LeftOut p)
     (Whole k (p + 6) len (countOf s (shape (kindAt k)) (p + 6) len) (p + 6 + len))))))
@@ -54,4 +56,4 @@ recordAt s p =
 
 -- the same for a file of any length: "9 first"
 unfoldable pub recordFrom : List ℕ → ℕ → Record
-recordFrom s p = cond (ltb 65536 (length s)) (Bad FileTooLong 0) (recordAt s p)
+recordFrom s p = cond (ltb mostBytes (length s)) (Bad FileTooLong 0) (recordAt s p)

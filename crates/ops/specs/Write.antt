@@ -4,13 +4,14 @@ use mathlib.Core.Bool.{Bool, cond, false}
 use mathlib.Core.List.{List, [], _∷_, _++_}
 use lib.ListN.{length}
 use lib.Dec.{leb}
+use Rattle.basics.specs.Limits.{mostBytes, mostOps, mostMarks, lanes, mostText}
 use Rattle.byte_fields.specs.Bytes.{le16, le32, le64}
 use Rattle.byte_fields.specs.Storage.{placed}
 use Rattle.ops.specs.declared.op.Mode.{Mode}
 use Rattle.ops.specs.declared.op.Mode.the-variants.{Char, Int, Other}
-use Rattle.ops.specs.Op.{Plain, Op, kindOf, isFunction}
-use Rattle.ops.specs.Op.Plain.{comment, store, move, swap, locate, offset, deref, refer, cell, lane, get, put, peek, poke, alloc, free}
-use Rattle.ops.specs.Op.Op.{control, set, load, plain}
+use Rattle.ops.specs.Syntax.{Plain, Op, kindOf, isFunction}
+use Rattle.ops.specs.Syntax.Plain.{comment, store, move, swap, locate, offset, deref, refer, cell, lane, get, put, peek, poke, alloc, free}
+use Rattle.ops.specs.Syntax.Op.{control, set, load, plain}
 use Rattle.ops.specs.declared.writer.Written.{Written}
 use Rattle.ops.specs.declared.writer.Written.the-variants.{Next, NoRoom}
 
@@ -20,15 +21,27 @@ recordOf k payload = le32 (length payload + 2) ++ le16 k ++ payload
 
 -- whether a record with len bytes of payload may stand at byte `at` of room for `size` bytes: "file 65,536 bytes"
 unfoldable pub hasRoom : ℕ → ℕ → ℕ → Bool
-hasRoom size at len = cond (leb (at + 6 + len) 65536) (leb (at + 6 + len) size) false
+hasRoom size at len = cond (leb (at + 6 + len) mostBytes) (leb (at + 6 + len) size) false
 
--- the answer, and the lent bytes
+-- the first column of 'Numbers given back': "written" is 0, "lent room too short" 40
+abbrev pub numberOf : Written → ℕ
+numberOf (Next n) = 0
+numberOf NoRoom = 40
+
+-- the byte after the record, where it is written; else the last column
+abbrev pub placeOf : Written → ℕ
+placeOf (Next n) = n
+placeOf NoRoom = 0
+
+-- the answer with its number and place, and the lent bytes
 pub record Wrote : Type 0 where
   pub answer : Written
+  pub number : ℕ
+  pub place : ℕ
   pub bytes : List ℕ
 
 abbrev pub wrote : Written → List ℕ → Wrote
-wrote a s = record { answer = a; bytes = s }
+wrote a s = record { answer = a; number = numberOf a; place = placeOf a; bytes = s }
 
 -- the record of kind k, all of it or none
 unfoldable pub writeOf : List ℕ → ℕ → ℕ → List ℕ → Wrote
@@ -51,7 +64,7 @@ valueBytes [] = []
 valueBytes (v ∷ vs) = le64 v ++ valueBytes vs
 
 -- "Payloads: lane count u32; Move i64; Offset i64 then u32; either Set 8 bytes a value; Comment 0 to 255 bytes; Get and
--- Put u16 mode; the rest empty"
+-- Put u16 mode .. the rest empty"
 abbrev pub plainPayload : Plain → List ℕ
 plainPayload (comment bs) = bs
 plainPayload (store n) = le32 n
@@ -92,16 +105,16 @@ Below b (x ∷ xs) = (x < b) × Below b xs
 
 -- "1,024 lanes" or values, "Comment 0 to 255 bytes", and numbers of 64 bits
 abbrev pub PlainFits : Plain → Type 0
-PlainFits (comment bs) = (length bs ≤ 255) × Below 256 bs
-PlainFits (store n) = n ≤ 1024
+PlainFits (comment bs) = (length bs ≤ mostText) × Below 256 bs
+PlainFits (store n) = n ≤ lanes
 PlainFits (move v) = v < 2 ^ 64
-PlainFits (swap n) = n ≤ 1024
+PlainFits (swap n) = n ≤ lanes
 PlainFits locate = Unit {0}
-PlainFits (offset v n) = (v < 2 ^ 64) × (n ≤ 1024)
+PlainFits (offset v n) = (v < 2 ^ 64) × (n ≤ lanes)
 PlainFits deref = Unit {0}
 PlainFits refer = Unit {0}
-PlainFits (cell k n) = n ≤ 1024
-PlainFits (lane k n) = n ≤ 1024
+PlainFits (cell k n) = n ≤ lanes
+PlainFits (lane k n) = n ≤ lanes
 PlainFits (get m) = Unit {0}
 PlainFits (put m) = Unit {0}
 PlainFits peek = Unit {0}
@@ -111,8 +124,8 @@ PlainFits free = Unit {0}
 
 abbrev pub Fits : Op → Type 0
 Fits (control c) = Unit {0}
-Fits (set k vs) = (length vs ≤ 1024) × Below (2 ^ 64) vs
-Fits (load n) = n ≤ 1024
+Fits (set k vs) = (length vs ≤ lanes) × Below (2 ^ 64) vs
+Fits (load n) = n ≤ lanes
 Fits (plain p) = PlainFits p
 
 -- a property of each op
@@ -131,6 +144,6 @@ marksIn (o ∷ os) = markIn o + marksIn os
 -- "file 65,536 bytes; 4,096 ops; 256 Function marks; 1,024 lanes"
 pub record AllFit (os : List Op) : Type 0 where
   pub each : Each Fits os
-  pub ops : length os ≤ 4096
-  pub marks : marksIn os ≤ 256
-  pub bytes : length (encodeAll os) ≤ 65536
+  pub ops : length os ≤ mostOps
+  pub marks : marksIn os ≤ mostMarks
+  pub bytes : length (encodeAll os) ≤ mostBytes

@@ -1,6 +1,5 @@
 // Ops, and their records in a patch file.
 pub mod op; // how Get reads and how Put writes
-pub mod limits; // the last file length, op count, mark count and lane count that are accepted
 pub mod writer; // one record to bytes
 pub mod refusals; // why a file is refused
 pub mod records; // the record at a place

@@ -3,7 +3,7 @@ ghost use mathlib.Core.Path.{_≡_};
 ghost use Prim.Native.Nat.{_+_, _≤_};
 ghost use lib.ListN.{length};
 ghost use Rattle.byte_fields.specs.Bytes.{u16At};
-ghost use Rattle.ops.specs.Ops.{modeIn};
+ghost use Rattle.ops.specs.Decode.{modeIn};
 use byte_fields::read::u16_at;
 
 pub enum Mode {

@@ -3,20 +3,26 @@ ghost use mathlib.Core.Path.{_≡_};
 ghost use mathlib.Core.Bool.{true};
 ghost use Prim.Native.Nat.{_+_, _≤_};
 ghost use lib.ListN.{length};
+ghost use Rattle.basics.specs.Limits.{mostBytes};
 ghost use Rattle.ops.specs.Record.{lengthOk, countOf, modeOf, bodyAt, recordAt, recordFrom};
-use crate::limits::FILE_BYTES;
-use crate::limits::LANES;
 use crate::refusals::Refusal;
 use byte_fields::read::u16_at;
 use byte_fields::read::u32_at;
+use kind_table::kinds::COUNT;
 use kind_table::kinds::index_of;
 use kind_table::kinds::kind_at;
+use kind_table::shape;
+
+// The last mode, and the one that is left out.
+const MODES: usize = 3;
+
+const FLOAT: usize = 2;
 
 // A whole record: the row of its kind, the first byte and the length of its payload, the lanes, values or bytes
 // that the payload counts, and the byte after it. Or the refusal, and the record's first byte.
 pub enum Record {
     Whole {
-        kind: usize,
+        row: usize,
         body: usize,
         len: usize,
         count: usize,
@@ -28,88 +34,97 @@ pub enum Record {
     },
 }
 
+// The limits of a record and of the bytes that it stands in, each the last accepted.
+impl Record {
+    pub const FILE: usize = 65536;
+
+    pub const LANES: usize = 1024;
+
+    pub const COMMENT: usize = 255;
+}
+
 // Whether a payload of `len` bytes has a length that its shape may have.
-fn length_ok(shape: u8, len: usize) -> bool
-    ensures { λ r. ⌜ r ≡ lengthOk shape len ⌝ }
+fn length_ok(form: u8, len: usize) -> bool
+    ensures { λ r. ⌜ r ≡ lengthOk form len ⌝ }
 {
-    match shape {
-        1 => len <= 255,
-        2 => len % 8 == 0,
-        3 => len == 4,
-        4 => len == 8,
-        5 => len == 12,
-        6 => len == 2,
+    match form {
+        shape::TEXT => len <= Record::COMMENT,
+        shape::VALUES => len % 8 == 0,
+        shape::LANES => len == 4,
+        shape::MOVE => len == 8,
+        shape::OFFSET => len == 12,
+        shape::MODE => len == 2,
         _ => len == 0,
     }
 }
 
 // What a payload counts: bytes of text, values, or lanes.
-fn count_of(bytes: &[u8], shape: u8, at: usize, len: usize) -> usize
-    requires { ⌜ (at + len ≤ length (now bytes)) × (lengthOk shape len ≡ true) ⌝ }
-    ensures { λ r. ⌜ r ≡ countOf (now (bytes .entry)) shape at len ⌝ }
+fn count_of(bytes: &[u8], form: u8, at: usize, len: usize) -> usize
+    requires { ⌜ (at + len ≤ length (now bytes)) × (lengthOk form len ≡ true) ⌝ }
+    ensures { λ r. ⌜ r ≡ countOf (now (bytes .entry)) form at len ⌝ }
 {
-    match shape {
-        1 => len,
-        2 => len / 8,
-        3 => u32_at(bytes, at),
-        5 => u32_at(bytes, at + 8),
+    match form {
+        shape::TEXT => len,
+        shape::VALUES => len / 8,
+        shape::LANES => u32_at(bytes, at),
+        shape::OFFSET => u32_at(bytes, at + 8),
         _ => 0,
     }
 }
 
 // The mode that a payload names; 0 where it names none.
-fn mode_of(bytes: &[u8], shape: u8, at: usize, len: usize) -> usize
-    requires { ⌜ (at + len ≤ length (now bytes)) × (lengthOk shape len ≡ true) ⌝ }
-    ensures { λ r. ⌜ r ≡ modeOf (now (bytes .entry)) shape at ⌝ }
+fn mode_of(bytes: &[u8], form: u8, at: usize, len: usize) -> usize
+    requires { ⌜ (at + len ≤ length (now bytes)) × (lengthOk form len ≡ true) ⌝ }
+    ensures { λ r. ⌜ r ≡ modeOf (now (bytes .entry)) form at ⌝ }
 {
-    match shape {
-        6 => u16_at(bytes, at),
+    match form {
+        shape::MODE => u16_at(bytes, at),
         _ => 0,
     }
 }
 
 // The record at byte `at` whose kind is row k and whose payload has `len` bytes.
 fn body_at(bytes: &[u8], at: usize, k: usize, len: usize) -> Record
-    requires { ⌜ (at + 6 + len ≤ length (now bytes)) × (length (now bytes) ≤ 65536) ⌝ }
+    requires { ⌜ (at + 6 + len ≤ length (now bytes)) × (length (now bytes) ≤ mostBytes) ⌝ }
     ensures { λ r. ⌜ r ≡ bodyAt (now (bytes .entry)) at k len ⌝ }
 {
     let kind = kind_at(k);
-    let shape = kind.0;
+    let form = kind.0;
     let body = at + 6;
-    if shape == 7 {
+    if form == shape::LEFT_OUT {
         return Record::Bad {
             refusal: Refusal::LeftOut,
             place: at,
         };
     }
-    if !length_ok(shape, len) {
+    if !length_ok(form, len) {
         return Record::Bad {
             refusal: Refusal::WrongLength,
             place: at,
         };
     }
-    let count = count_of(bytes, shape, body, len);
-    if LANES < count {
+    let count = count_of(bytes, form, body, len);
+    if Record::LANES < count {
         return Record::Bad {
             refusal: Refusal::TooManyLanes,
             place: at,
         };
     }
-    let mode = mode_of(bytes, shape, body, len);
-    if 3 < mode {
+    let mode = mode_of(bytes, form, body, len);
+    if MODES < mode {
         return Record::Bad {
             refusal: Refusal::WrongMode,
             place: at,
         };
     }
-    if mode == 2 {
+    if mode == FLOAT {
         return Record::Bad {
             refusal: Refusal::LeftOut,
             place: at,
         };
     }
     Record::Whole {
-        kind: k,
+        row: k,
         body,
         len,
         count,
@@ -119,7 +134,7 @@ fn body_at(bytes: &[u8], at: usize, k: usize, len: usize) -> Record
 
 // What stands at byte `at` of a patch.
 fn record_at(bytes: &[u8], at: usize) -> Record
-    requires { ⌜ (at ≤ length (now bytes)) × (length (now bytes) ≤ 65536) ⌝ }
+    requires { ⌜ (at ≤ length (now bytes)) × (length (now bytes) ≤ mostBytes) ⌝ }
     ensures { λ r. ⌜ r ≡ recordAt (now (bytes .entry)) at ⌝ }
 {
     if bytes.len() < at + 4 {
@@ -143,7 +158,7 @@ fn record_at(bytes: &[u8], at: usize) -> Record
     }
     let number = u16_at(bytes, at + 4);
     let k = index_of(number);
-    if 62 <= k {
+    if COUNT <= k {
         return Record::Bad {
             refusal: Refusal::UnknownKind,
             place: at,
@@ -156,7 +171,7 @@ fn record_at(bytes: &[u8], at: usize) -> Record
 pub fn record_from(bytes: &[u8], at: usize) -> Record
     ensures { λ r. ⌜ r ≡ recordFrom (now (bytes .entry)) at ⌝ }
 {
-    if FILE_BYTES < bytes.len() {
+    if Record::FILE < bytes.len() {
         return Record::Bad {
             refusal: Refusal::FileTooLong,
             place: 0,

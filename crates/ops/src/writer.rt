@@ -3,8 +3,9 @@ ghost use mathlib.Core.Path.{_≡_};
 ghost use Prim.Native.Nat.{_+_, _≤_};
 ghost use lib.ListN.{length};
 ghost use Rattle.byte_fields.specs.Storage.{placed};
+ghost use Rattle.basics.specs.Limits.{mostBytes};
 ghost use Rattle.ops.specs.Write.{recordOf, hasRoom, wrote, writeOf};
-use crate::limits::FILE_BYTES;
+use crate::records::Record;
 use byte_fields::write::copy_bytes;
 use byte_fields::write::put_u16;
 use byte_fields::write::put_u32;
@@ -19,14 +20,14 @@ pub enum Written {
 fn has_room(size: usize, at: usize, len: usize) -> bool
     ensures { λ r. ⌜ r ≡ hasRoom size at len ⌝ }
 {
-    if FILE_BYTES < at {
+    if Record::FILE < at {
         return false;
     }
-    if FILE_BYTES < len {
+    if Record::FILE < len {
         return false;
     }
     let end = at + 6 + len;
-    if FILE_BYTES < end {
+    if Record::FILE < end {
         return false;
     }
     end <= size
@@ -34,7 +35,7 @@ fn has_room(size: usize, at: usize, len: usize) -> bool
 
 // The record of a kind's number and its payload, where it has room; the byte after it.
 fn place_record(out: &mut [u8], at: usize, kind: u16, payload: &[u8]) -> usize
-    requires { ⌜ (at + 6 + length (now payload) ≤ length (now out)) × (at + 6 + length (now payload) ≤ 65536) ⌝ }
+    requires { ⌜ (at + 6 + length (now payload) ≤ length (now out)) × (at + 6 + length (now payload) ≤ mostBytes) ⌝ }
     ensures { λ r. ⌜ (r ≡ at + 6 + length (now (payload .entry))) × (now (out .exit) ≡ placed (now (out .entry)) at (recordOf kind (now (payload .entry)))) ⌝ }
 {
     let len = payload.len();

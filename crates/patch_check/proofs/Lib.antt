@@ -1,3 +1,3 @@
-pub mod Turns
-pub mod Seen
+pub mod CheckLoop
+pub mod RowsAreOps
 pub mod Loaded

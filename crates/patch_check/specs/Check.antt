@@ -3,22 +3,22 @@ use Prim.Native.Nat.{ℕ, zero, suc}
 use mathlib.Core.Bool.{Bool, true, false, cond}
 use mathlib.Core.List.{List, [], _∷_}
 use lib.Dec.{ltb}
-use Rattle.ops.specs.Op.{Op, Mark, mark}
-use Rattle.ops.specs.Op.Mark.{up, down, mid, flat}
+use Rattle.ops.specs.Syntax.{Op, Bracket, bracket}
+use Rattle.ops.specs.Syntax.Bracket.{up, down, mid, flat}
 use Rattle.machine_model.specs.State.{lanes}
 use Rattle.patch_check.specs.Rules.{asks, leaves}
 use Rattle.answers.specs.declared.check.Verdict.{Verdict}
 use Rattle.answers.specs.declared.check.Verdict.the-variants.{Passed, NoOpenEnd, NoOpenElse, FewLanes, NeverClosed}
 
 -- an End, and an Else, where no bracket is open
-abbrev pub strayEnd : Mark → ℕ → Bool
+abbrev pub strayEnd : Bracket → ℕ → Bool
 strayEnd up d = false
 strayEnd mid d = false
 strayEnd flat d = false
 strayEnd down zero = true
 strayEnd down (suc d) = false
 
-abbrev pub strayElse : Mark → ℕ → Bool
+abbrev pub strayElse : Bracket → ℕ → Bool
 strayElse up d = false
 strayElse down d = false
 strayElse flat d = false
@@ -26,7 +26,7 @@ strayElse mid zero = true
 strayElse mid (suc d) = false
 
 -- the open brackets after a mark
-abbrev pub depth : Mark → ℕ → ℕ
+abbrev pub depth : Bracket → ℕ → ℕ
 depth up d = suc d
 depth flat d = d
 depth down zero = zero
@@ -34,9 +34,9 @@ depth down (suc d) = d
 depth mid d = d
 
 -- where the outermost open bracket stands: the last op that was met with no bracket open
-abbrev pub from : ℕ → ℕ → ℕ → ℕ
-from zero p f = p
-from (suc d) p f = f
+abbrev pub outermost : ℕ → ℕ → ℕ → ℕ
+outermost zero p f = p
+outermost (suc d) p f = f
 
 -- after the last op: 13 where a bracket is open
 abbrev pub ended : ℕ → ℕ → ℕ → Verdict
@@ -47,9 +47,9 @@ ended (suc d) p f = NeverClosed f
 unfoldable pub scan : ℕ → ℕ → ℕ → ℕ → List Op → Verdict
 scan f p k d [] = ended d p f
 scan f p k d (o ∷ os) =
-    let r = scan (from d p f) (suc p) (leaves o k) (depth (mark o) d) os in
-    cond (strayEnd (mark o) d) (NoOpenEnd p)
-    (cond (strayElse (mark o) d) (NoOpenElse p)
+    let r = scan (outermost d p f) (suc p) (leaves o k) (depth (bracket o) d) os in
+    cond (strayEnd (bracket o) d) (NoOpenEnd p)
+    (cond (strayElse (bracket o) d) (NoOpenElse p)
     (cond (ltb k (asks o)) (FewLanes p) r))
 
 unfoldable pub check : List Op → Verdict

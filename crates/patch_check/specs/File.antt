@@ -2,9 +2,9 @@
 use Prim.Native.Nat.{ℕ}
 use mathlib.Core.Path.{_≡_}
 use mathlib.Core.List.{List}
-use Rattle.ops.specs.Op.{Op}
-use Rattle.ops.specs.Ops.{Patch, opsOf}
-use Rattle.ops.specs.Ops.Patch.{ops, refused}
+use Rattle.ops.specs.Syntax.{Op}
+use Rattle.ops.specs.Decode.{Patch, opsOf}
+use Rattle.ops.specs.Decode.Patch.{ops, refused}
 use Rattle.patch_check.specs.Rules.{KeepsRules}
 use Rattle.patch_check.specs.Check.{check}
 use Rattle.answers.specs.declared.check.Verdict.{Verdict}

@@ -4,12 +4,12 @@ use mathlib.Core.Path.{_≡_}
 use mathlib.Core.List.{List, [], _∷_}
 use mathlib.Core.Option.{none}
 use lib.ListN.{length, take, drop}
-use Rattle.ops.specs.Op.{Op, Control, Mark, mark, needs}
-use Rattle.ops.specs.Op.Control.{function, call, ret, while, if, else, end}
-use Rattle.ops.specs.Op.Op.{control, set, load, plain}
-use Rattle.ops.specs.Op.Mark.{up, down, mid, flat}
+use Rattle.ops.specs.Syntax.{Op, Control, Bracket, bracket, needs}
+use Rattle.ops.specs.Syntax.Control.{function, call, ret, while, if, else, end}
+use Rattle.ops.specs.Syntax.Op.{control, set, load, plain}
+use Rattle.ops.specs.Syntax.Bracket.{up, down, mid, flat}
 use Rattle.machine_model.specs.State.{lanes}
-use Rattle.machine_model.specs.Scan.{opAt, marks, toEnd}
+use Rattle.machine_model.specs.Scan.{opAt, brackets, toEnd}
 
 -- ---- lanes
 
@@ -47,14 +47,14 @@ known k (o ∷ os) (suc i) = known (leaves o k) os i
 -- ---- brackets
 
 -- how many brackets are opened, and how many closed
-abbrev pub opens : List Mark → ℕ
+abbrev pub opens : List Bracket → ℕ
 opens [] = 0
 opens (up ∷ ms) = suc (opens ms)
 opens (down ∷ ms) = opens ms
 opens (mid ∷ ms) = opens ms
 opens (flat ∷ ms) = opens ms
 
-abbrev pub closes : List Mark → ℕ
+abbrev pub closes : List Bracket → ℕ
 closes [] = 0
 closes (up ∷ ms) = closes ms
 closes (down ∷ ms) = suc (closes ms)
@@ -63,29 +63,29 @@ closes (flat ∷ ms) = closes ms
 
 -- a bracket is open before place i
 abbrev pub Open : List Op → ℕ → Type 0
-Open os i = closes (take i (marks os)) < opens (take i (marks os))
+Open os i = closes (take i (brackets os)) < opens (take i (brackets os))
 
 -- the op at place i opens a bracket, and the search for its End finds none
 pub record NeverClosed (os : List Op) (i : ℕ) : Type 0 where
   pub within : i < length os
-  pub opening : mark (opAt os i) ≡ up
-  pub lost : toEnd (suc i) 0 (drop (suc i) (marks os)) ≡ none
+  pub opening : bracket (opAt os i) ≡ up
+  pub lost : toEnd (suc i) 0 (drop (suc i) (brackets os)) ≡ none
 
 -- ---- the rules
 
 -- each End and each Else has an open bracket ("An Else may stand in any bracket"), each op has the lanes that it needs ("Known lanes start
 -- at 1,024"), and each bracket is closed
 pub record KeepsRules (os : List Op) : Type 0 where
-  pub ends : (i : ℕ) → i < length os → mark (opAt os i) ≡ down → Open os i
-  pub elses : (i : ℕ) → i < length os → mark (opAt os i) ≡ mid → Open os i
+  pub ends : (i : ℕ) → i < length os → bracket (opAt os i) ≡ down → Open os i
+  pub elses : (i : ℕ) → i < length os → bracket (opAt os i) ≡ mid → Open os i
   pub enough : (i : ℕ) → i < length os → asks (opAt os i) ≤ known lanes os i
-  pub closed : opens (marks os) ≡ closes (marks os)
+  pub closed : opens (brackets os) ≡ closes (brackets os)
 
 -- what is wrong at a place: "End, Else with no open bracket" 10, 11; "known lanes too few" 12; of one op "10 or 11, then 12"
 pub data Breaks (os : List Op) (i : ℕ) : ℕ → Type 0 where
-  no-end : mark (opAt os i) ≡ down → (Open os i → ⊥) → Breaks os i 10
-  no-else : mark (opAt os i) ≡ mid → (Open os i → ⊥) → Breaks os i 11
-  few : (mark (opAt os i) ≡ down → Open os i) → (mark (opAt os i) ≡ mid → Open os i) → known lanes os i < asks (opAt os i) → Breaks os i 12
+  no-end : bracket (opAt os i) ≡ down → (Open os i → ⊥) → Breaks os i 10
+  no-else : bracket (opAt os i) ≡ mid → (Open os i → ⊥) → Breaks os i 11
+  few : (bracket (opAt os i) ≡ down → Open os i) → (bracket (opAt os i) ≡ mid → Open os i) → known lanes os i < asks (opAt os i) → Breaks os i 12
 
 -- the number and place that a check may give: 0 and the op count where the rules are kept; "From op 0": the first op that breaks one; "at
 -- the end 13", "bracket never closed: the earliest"

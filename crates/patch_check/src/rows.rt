@@ -2,16 +2,19 @@
 ghost use mathlib.Core.Path.{_≡_};
 ghost use Prim.Native.Nat.{ℕ, _≤_};
 ghost use Rattle.patch_check.specs.Rows.{opensOf, endsOf, elsesOf, needOf, afterOf};
+use kind_table::bracket;
 use kind_table::kinds::kind_at;
+use kind_table::known;
+use kind_table::need;
 
 // How many brackets it opens: one for Function, While and If.
 pub fn opens_of(k: usize) -> usize
     ensures { λ r. ⌜ (r ≡ opensOf k) × (r ≤ 1) ⌝ }
 {
     match k {
-        2 => 1,
-        5 => 1,
-        6 => 1,
+        bracket::FUNCTION => 1,
+        bracket::WHILE => 1,
+        bracket::IF => 1,
         _ => 0,
     }
 }
@@ -20,7 +23,7 @@ pub fn opens_of(k: usize) -> usize
 pub fn ends_of(k: usize) -> usize
     ensures { λ r. ⌜ (r ≡ endsOf k) × (r ≤ 1) ⌝ }
 {
-    if k == 8 {
+    if k == bracket::END {
         return 1;
     }
     0
@@ -30,7 +33,7 @@ pub fn ends_of(k: usize) -> usize
 pub fn elses_of(k: usize) -> usize
     ensures { λ r. ⌜ r ≡ elsesOf k ⌝ }
 {
-    if k == 7 {
+    if k == bracket::ELSE {
         return 1;
     }
     0
@@ -41,23 +44,23 @@ pub fn need_of(k: usize, n: usize) -> usize
     ensures { λ r. ⌜ r ≡ needOf k n ⌝ }
 {
     let kind = kind_at(k);
-    let need = kind.1;
-    match need {
-        0 => 0,
-        2 => n,
+    let asked = kind.1;
+    match asked {
+        need::NONE => 0,
+        need::ALL => n,
         _ => 1,
     }
 }
 
-// The lanes known after it, where it counts n and `known` were known before it.
-pub fn after_of(k: usize, n: usize, known: usize) -> usize
-    ensures { λ r. ⌜ r ≡ afterOf k n known ⌝ }
+// The lanes known after it, where it counts n and so many were known before it.
+pub fn after_of(k: usize, n: usize, lanes: usize) -> usize
+    ensures { λ r. ⌜ r ≡ afterOf k n lanes ⌝ }
 {
     let kind = kind_at(k);
     let after = kind.2;
     match after {
-        0 => known,
-        1 => n,
+        known::KEEP => lanes,
+        known::OWN => n,
         _ => 1,
     }
 }

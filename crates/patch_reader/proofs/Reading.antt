@@ -13,7 +13,7 @@ use Rattle.byte_fields.proofs.Storage.{fill-snoc}
 use Rattle.kind_table.specs.Kinds.{need, kindAt, runNeed}
 use Rattle.ops.specs.Refusals.{numberOf}
 use Rattle.ops.specs.Record.{recordAt, recordFrom}
-use Rattle.ops.specs.Patch.{Item, item, kindIn, countIn, needIn, placeIn, Loaded, ending, stop, push, walk, patchOf, markOf}
+use Rattle.ops.specs.Patch.{Item, item, rowIn, countIn, needIn, payloadIn, Loaded, ending, stop, push, walk, patchOf, markOf}
 use Rattle.patch_reader.specs.Answer.{readOf, refusedAt}
 use Rattle.ops.specs.declared.refusals.Refusal.{Refusal}
 use Rattle.ops.specs.declared.refusals.Refusal.the-variants.{CutShort, WrongLength, UnknownKind, LeftOut, TooManyLanes, WrongMode, TooManyOps, TooManyMarks, FileTooLong}
@@ -68,10 +68,10 @@ pub record Reading (s k₀ c₀ e₀ p₀ k c e p : List ℕ) (at n m : ℕ) : T
   pub acc : List Item
   pub size : length acc ≡ n
   pub whole : patchOf s ≡ prepend acc (walk s (4096 - n) m at)
-  pub ks : k ≡ fill (map kindIn acc) k₀
+  pub ks : k ≡ fill (map rowIn acc) k₀
   pub cs : c ≡ fill (map countIn acc) c₀
   pub es : e ≡ fill (map needIn acc) e₀
-  pub ps : p ≡ fill (map placeIn acc) p₀
+  pub ps : p ≡ fill (map payloadIn acc) p₀
   pub room : n ≤ 4096
   pub short : length s ≤ 65536
   pub few : m ≤ 256
@@ -79,10 +79,10 @@ pub record Reading (s k₀ c₀ e₀ p₀ k c e p : List ℕ) (at n m : ℕ) : T
 abbrev pub Said : (s k₀ c₀ e₀ p₀ k c e p : List ℕ) → Read → Type 0
 Said s k₀ c₀ e₀ p₀ k c e p r =
     (r ≡ readOf (patchOf s))
-    × ((k ≡ fill (map kindIn (patchOf s .items)) k₀)
+    × ((k ≡ fill (map rowIn (patchOf s .items)) k₀)
     × ((c ≡ fill (map countIn (patchOf s .items)) c₀)
     × ((e ≡ fill (map needIn (patchOf s .items)) e₀)
-    × (p ≡ fill (map placeIn (patchOf s .items)) p₀))))
+    × (p ≡ fill (map payloadIn (patchOf s .items)) p₀))))
 
 -- a run of an op needs no more lanes than it may count
 pub need-few : (k n r : ℕ) → r ≡ runNeed k n → n ≤ 1024 → r ≤ 1024
@@ -149,10 +149,10 @@ module _ {s k₀ c₀ e₀ p₀ k c e p : List ℕ} {at n m : ℕ} (i : Reading 
             ∙ ap (prepend (i .acc)) (walk-op s m at (4096 - (n + 1)) kind b len count next h w f′)
             ∙ prepend-push (i .acc) x _
             ∙ ap (λ (j : ℕ). prepend (i .acc ++ (x ∷ [])) (walk s (4096 - (n + 1)) j next)) (sym v);
-        ks = fill-item kindIn (i .acc) x k₀ k n kind (i .size) hk r refl (i .ks);
+        ks = fill-item rowIn (i .acc) x k₀ k n kind (i .size) hk r refl (i .ks);
         cs = fill-item countIn (i .acc) x c₀ c n count (i .size) hc r refl (i .cs);
         es = fill-item needIn (i .acc) x e₀ e n need (i .size) he r u (i .es);
-        ps = fill-item placeIn (i .acc) x p₀ p n b (i .size) hp r refl (i .ps);
+        ps = fill-item payloadIn (i .acc) x p₀ p n b (i .size) hp r refl (i .ps);
         room = omega arith;
         short = i .short;
         few = f;

@@ -3,14 +3,13 @@ ghost use mathlib.Core.Path.{_≡_};
 ghost use mathlib.Core.List.{map};
 ghost use Prim.Native.Nat.{_≤_};
 ghost use lib.ListN.{length};
+ghost use Rattle.basics.specs.Limits.{mostOps};
 ghost use Rattle.byte_fields.specs.Storage.{fill};
-ghost use Rattle.ops.specs.Patch.{kindIn, countIn, needIn, placeIn, markOf, patchOf};
+ghost use Rattle.ops.specs.Patch.{rowIn, countIn, needIn, payloadIn, markOf, patchOf};
 ghost use Rattle.patch_reader.specs.Answer.{refusedAt, readOf};
 use crate::record_reader::read_record;
+use kind_table::bracket;
 use kind_table::kinds::run_need;
-use ops::limits::FILE_BYTES;
-use ops::limits::MARKS;
-use ops::limits::OPS;
 use ops::records::Record;
 use ops::refusals::Refusal;
 use ops::refusals::number_of;
@@ -22,11 +21,18 @@ pub struct Read {
     pub ops: usize,
 }
 
+// The limits of what is read, each the last accepted.
+impl Read {
+    pub const OPS: usize = 4096;
+
+    pub const MARKS: usize = 256;
+}
+
 // 1 for a Function mark, else 0.
-pub fn mark_of(kind: usize) -> usize
-    ensures { λ r. ⌜ (r ≡ markOf kind) × (r ≤ 1) ⌝ }
+pub fn mark_of(row: usize) -> usize
+    ensures { λ r. ⌜ (r ≡ markOf row) × (r ≤ 1) ⌝ }
 {
-    if kind == 2 {
+    if row == bracket::FUNCTION {
         return 1;
     }
     0
@@ -43,19 +49,19 @@ fn refused_at(refusal: Refusal, place: usize, ops: usize) -> Read
 // lanes that a run of it needs, and its payload's first byte. The entries beyond keep their values.
 pub fn load(
     bytes: &[u8],
-    kinds: &mut [u8; 4096],
-    counts: &mut [u16; 4096],
-    needs: &mut [u16; 4096],
-    places: &mut [u32; 4096],
+    rows: &mut [u8; Read::OPS],
+    counts: &mut [u16; Read::OPS],
+    needs: &mut [u16; Read::OPS],
+    payloads: &mut [u32; Read::OPS],
 ) -> Read
-    requires { ⌜ (length (now kinds) ≡ 4096) × ((length (now counts) ≡ 4096) × ((length (now needs) ≡ 4096) × (length (now places) ≡ 4096))) ⌝ }
+    requires { ⌜ (length (now rows) ≡ mostOps) × ((length (now counts) ≡ mostOps) × ((length (now needs) ≡ mostOps) × (length (now payloads) ≡ mostOps))) ⌝ }
     ensures { λ r. ⌜ r ≡ readOf (patchOf (now (bytes .entry))) ⌝ }
-    ensures { λ r. ⌜ now (kinds .exit) ≡ fill (map kindIn (patchOf (now (bytes .entry)) .items)) (now (kinds .entry)) ⌝ }
+    ensures { λ r. ⌜ now (rows .exit) ≡ fill (map rowIn (patchOf (now (bytes .entry)) .items)) (now (rows .entry)) ⌝ }
     ensures { λ r. ⌜ now (counts .exit) ≡ fill (map countIn (patchOf (now (bytes .entry)) .items)) (now (counts .entry)) ⌝ }
     ensures { λ r. ⌜ now (needs .exit) ≡ fill (map needIn (patchOf (now (bytes .entry)) .items)) (now (needs .entry)) ⌝ }
-    ensures { λ r. ⌜ now (places .exit) ≡ fill (map placeIn (patchOf (now (bytes .entry)) .items)) (now (places .entry)) ⌝ }
+    ensures { λ r. ⌜ now (payloads .exit) ≡ fill (map payloadIn (patchOf (now (bytes .entry)) .items)) (now (payloads .entry)) ⌝ }
 {
-    if FILE_BYTES < bytes.len() {
+    if Record::FILE < bytes.len() {
         return refused_at(Refusal::FileTooLong, 0, 0);
     }
     let mut at: usize = 0;
@@ -68,24 +74,24 @@ pub fn load(
                 return refused_at(refusal, place, n);
             }
             Record::Whole {
-                kind,
+                row,
                 body,
                 len: _,
                 count,
                 next,
             } => {
-                if OPS <= n {
+                if Read::OPS <= n {
                     return refused_at(Refusal::TooManyOps, at, n);
                 }
-                let more = marks + mark_of(kind);
-                if MARKS < more {
+                let more = marks + mark_of(row);
+                if Read::MARKS < more {
                     return refused_at(Refusal::TooManyMarks, at, n);
                 }
-                let need = run_need(kind, count);
-                kinds[n] = kind as u8;
+                let need = run_need(row, count);
+                rows[n] = row as u8;
                 counts[n] = count as u16;
                 needs[n] = need as u16;
-                places[n] = body as u32;
+                payloads[n] = body as u32;
                 n += 1;
                 marks = more;
                 at = next;
@@ -103,9 +109,9 @@ pub fn load(
 pub fn read_patch(bytes: &[u8]) -> Read
     ensures { λ r. ⌜ r ≡ readOf (patchOf (now (bytes .entry))) ⌝ }
 {
-    let mut kinds = [0u8; 4096];
-    let mut counts = [0u16; 4096];
-    let mut needs = [0u16; 4096];
-    let mut places = [0u32; 4096];
-    load(bytes, &mut kinds, &mut counts, &mut needs, &mut places)
+    let mut rows = [0u8; Read::OPS];
+    let mut counts = [0u16; Read::OPS];
+    let mut needs = [0u16; Read::OPS];
+    let mut payloads = [0u32; Read::OPS];
+    load(bytes, &mut rows, &mut counts, &mut needs, &mut payloads)
 }

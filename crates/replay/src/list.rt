@@ -2,6 +2,31 @@
 ghost use Prim.Native.Nat.{_<_};
 use byte_fields::read::u32_at;
 use byte_fields::read::u64_at;
+use machine::machine::Machine;
+
+// The bounds that a list keeps: the bytes of a patch, which may be one more than the longest file has, and of a case beside it; what a run is
+// lent; the entries of a stack that are given; and the room for a joining or a flattening.
+pub const PATCH: usize = Machine::FILE + 1;
+
+pub const CASE: usize = 327680;
+
+pub const INPUTS: usize = 256;
+
+pub const CELLS: usize = 4096;
+
+pub const LANES: usize = 1026;
+
+pub const ENTRIES: usize = 258;
+
+pub const PLACES: usize = 258;
+
+pub const OUTPUTS: usize = 4096;
+
+pub const SAVED: usize = 256;
+
+pub const ROOM: usize = 65552;
+
+pub const BODIES: usize = 264;
 
 pub const BEYOND: usize = 0xffffffff;
 
@@ -64,10 +89,10 @@ pub fn inputs(case: &[u8], at: usize, values: &mut [u64]) {
     }
 }
 
-// The place after them; there are at most 256.
+// The place after them.
 pub fn after_inputs(case: &[u8], at: usize) -> usize {
     let n = word(case, at);
-    if 256 < n {
+    if INPUTS < n {
         return BEYOND;
     }
     after(case, after(case, at, 4), 8 * n)

@@ -12,6 +12,8 @@ use crate::found::Found;
 use crate::found::agreeing;
 use crate::found::is_case;
 use crate::found::show_damage;
+use crate::list::CASE;
+use crate::list::PATCH;
 use crate::list::word;
 use crate::tell::Tell;
 use byte_fields::read::u32_at;
@@ -72,7 +74,7 @@ fn take(
 }
 
 // The next case: its length, its sort and the length of its patch come first.
-fn next(tell: Tell, file: &mut [u8; 65537], case: &mut [u8; 327680]) -> Found {
+fn next(tell: Tell, file: &mut [u8; PATCH], case: &mut [u8; CASE]) -> Found {
     let mut head = [0u8; 9];
     let k = io::read_full(0, &mut head);
     if k == 0 {
@@ -87,10 +89,10 @@ fn next(tell: Tell, file: &mut [u8; 65537], case: &mut [u8; 327680]) -> Found {
         return Found::Damaged;
     }
     let after = size - (bytes + 5);
-    if 65537 < bytes {
+    if PATCH < bytes {
         return Found::Damaged;
     }
-    if 327680 < after {
+    if CASE < after {
         return Found::Damaged;
     }
     take(tell, head[4], bytes, after, file, case)
@@ -106,12 +108,14 @@ fn show(cases: u32, agree: u32) {
 }
 
 // A proved loop has to end, and nothing says that the list does: so the cases are counted up to a number that no list reaches.
+const CASES: u32 = 1000000000;
+
 fn main() {
-    let mut file = [0u8; 65537];
-    let mut case = [0u8; 327680];
+    let mut file = [0u8; PATCH];
+    let mut case = [0u8; CASE];
     let mut n: u32 = 0;
     let mut agree: u32 = 0;
-    while n < 1000000000 {
+    while n < CASES {
         let tell = Tell {
             case: n,
             loud: n - agree < 10,

@@ -1,6 +1,12 @@
 // A case that is a run, from a state or fresh.
 use crate::found::Found;
 use crate::found::of_same;
+use crate::list::CELLS;
+use crate::list::ENTRIES;
+use crate::list::INPUTS;
+use crate::list::LANES;
+use crate::list::OUTPUTS;
+use crate::list::PLACES;
 use crate::list::after;
 use crate::list::inputs;
 use crate::list::word;
@@ -20,6 +26,8 @@ use machine::machine::Machine;
 use machine::machine::Ran;
 use streams::part::of_lanes;
 
+const BUDGET: usize = Machine::BUDGET as usize;
+
 // A run from a state has its machine before its answer.
 fn at_answer(case: &[u8], sort: u8, at: usize) -> usize {
     if sort == 0 {
@@ -36,15 +44,24 @@ fn at_contents(case: &[u8], at: usize) -> usize {
 fn same_answer(tell: Tell, case: &[u8], at: usize, r: Ran) -> bool {
     let answer = r.answer;
     let m = r.machine;
-    let place = m.place;
+    let numbers = m.numbers;
     tell.same(b"number", word(case, at), number_of(answer))
         && tell.same(b"steps", word_on(case, at, 4), r.steps as usize)
         && tell.same(
             b"place",
             word_on(case, at, 8),
-            place_of(answer, place.position),
+            place_of(answer, numbers.position),
         )
         && same_machine(tell, case, after(case, at, 12), m)
+}
+
+// The budget of a case, which is at most the machine's.
+fn budget_of(case: &[u8]) -> u32 {
+    let budget = word(case, 0);
+    if BUDGET < budget {
+        return Machine::BUDGET;
+    }
+    budget as u32
 }
 
 fn start(
@@ -53,13 +70,13 @@ fn start(
     at: usize,
     file: &[u8],
     input: &[u64],
-    tape: &mut [u64],
     register: &mut [u64],
+    tape: &mut [u64],
     table: &mut [u16],
     channel: &mut [u64],
     output: &mut [u64],
 ) -> Ran {
-    let budget = word(case, 0) as u32;
+    let budget = budget_of(case);
     if sort == 0 {
         let m = machine_at(case, at);
         return m.run(file, register, tape, table, channel, input, output, budget);
@@ -70,12 +87,12 @@ fn start(
 // Lays its storage out, lends as much of it as the case says, runs, and compares.
 fn same_run(tell: Tell, sort: u8, file: &[u8], case: &[u8]) -> bool {
     let at = given_at(case);
-    let mut input = [0u64; 256];
-    let mut tape = [0u64; 4096];
-    let mut register = [0u64; 1026];
-    let mut table = [0u16; 258];
-    let mut channel = [0u64; 258];
-    let mut output = [0u64; 4096];
+    let mut input = [0u64; INPUTS];
+    let mut tape = [0u64; CELLS];
+    let mut register = [0u64; LANES];
+    let mut table = [0u16; ENTRIES];
+    let mut channel = [0u64; PLACES];
+    let mut output = [0u64; OUTPUTS];
     inputs(case, 4, &mut input);
     let given = of_lanes(word(case, 4), &input);
     let cells = lay(case, at.tape, &mut tape);
@@ -89,8 +106,8 @@ fn same_run(tell: Tell, sort: u8, file: &[u8], case: &[u8]) -> bool {
         at.end,
         file,
         &input[..given],
-        &mut tape[..cells],
         &mut register[..lanes],
+        &mut tape[..cells],
         &mut table[..entries],
         &mut channel[..ring],
         &mut output[..room],

@@ -1,6 +1,8 @@
 // A case that is a join or a flattening: the lent room holds one byte throughout before the call.
 use crate::found::Found;
 use crate::found::of_same;
+use crate::list::BODIES;
+use crate::list::ROOM;
 use crate::list::after;
 use crate::list::after_bytes;
 use crate::list::byte;
@@ -69,13 +71,13 @@ fn join_to(tell: Tell, file: &[u8], case: &[u8], out: &mut [u8]) -> Found {
 
 fn join(tell: Tell, file: &[u8], case: &[u8]) -> Found {
     let fill = byte(case, 4);
-    let mut out = [fill; 65552];
+    let mut out = [fill; ROOM];
     let n = of_bytes(word(case, 0), &out);
     join_to(tell, file, case, &mut out[..n])
 }
 
 pub fn replay_join(tell: Tell, file: &[u8], case: &[u8]) -> Found {
-    if 65552 < word(case, 0) {
+    if ROOM < word(case, 0) {
         return Found::Damaged;
     }
     if after_bytes(case, 13) != case.len() {
@@ -170,10 +172,10 @@ fn number(b: u8) -> u32 {
 fn flatten(tell: Tell, file: &[u8], case: &[u8]) -> Found {
     let fill = byte(case, 4);
     let each = number(fill);
-    let mut out = [fill; 65552];
-    let mut numbers = [each; 264];
-    let mut firsts = [each; 264];
-    let mut counts = [each; 264];
+    let mut out = [fill; ROOM];
+    let mut numbers = [each; BODIES];
+    let mut firsts = [each; BODIES];
+    let mut counts = [each; BODIES];
     let n = of_bytes(word(case, 0), &out);
     let k = of_numbers(word(case, 5), &numbers);
     flatten_to(
@@ -188,10 +190,10 @@ fn flatten(tell: Tell, file: &[u8], case: &[u8]) -> Found {
 }
 
 pub fn replay_flatten(tell: Tell, file: &[u8], case: &[u8]) -> Found {
-    if 65552 < word(case, 0) {
+    if ROOM < word(case, 0) {
         return Found::Damaged;
     }
-    if 264 < word(case, 5) {
+    if BODIES < word(case, 5) {
         return Found::Damaged;
     }
     let at = at_bodies(case);

@@ -1,6 +1,11 @@
 // The five slices of a run: where a case has them, laid down as they are given, and compared with what is expected of them.
 ghost use Prim.Native.Nat.{_≤_};
 ghost use Rattle.io.specs.Counts.{Counts};
+use crate::list::CELLS;
+use crate::list::ENTRIES;
+use crate::list::LANES;
+use crate::list::OUTPUTS;
+use crate::list::PLACES;
 use crate::list::after;
 use crate::list::after_contents;
 use crate::list::after_inputs;
@@ -25,11 +30,11 @@ pub struct Places {
 // The slices that a case gives after its inputs, where there is storage enough for them.
 pub fn given_at(case: &[u8]) -> Places {
     let tape = after_inputs(case, 4);
-    let register = after_slice(case, tape, 4096);
-    let table = after_slice(case, register, 1026);
-    let channel = after_slice(case, table, 258);
-    let output = after_slice(case, channel, 258);
-    let end = after_slice(case, output, 4096);
+    let register = after_slice(case, tape, CELLS);
+    let table = after_slice(case, register, LANES);
+    let channel = after_slice(case, table, ENTRIES);
+    let output = after_slice(case, channel, PLACES);
+    let end = after_slice(case, output, OUTPUTS);
     Places {
         tape,
         register,
@@ -80,7 +85,7 @@ fn narrow(from: &[u64], to: &mut [u16]) {
 pub fn lay_table(case: &[u8], at: usize, table: &mut [u16]) -> usize
     ensures { λ r. ⌜ Counts r (now (table .exit)) ⌝ }
 {
-    let mut entries = [0u64; 258];
+    let mut entries = [0u64; ENTRIES];
     lay(case, at, &mut entries);
     narrow(&entries, table);
     of_places(word(case, at), table)
@@ -151,7 +156,7 @@ fn widen(from: &[u16], to: &mut [u64]) {
 
 fn same_table(tell: Tell, case: &[u8], given: usize, at: usize, came: &[u16]) -> bool {
     let n = of_places(word(case, given), came);
-    let mut lanes = [0u64; 258];
+    let mut lanes = [0u64; ENTRIES];
     widen(&came[..n], &mut lanes);
     same_slice(tell, b"table entry", case, at, &lanes)
 }
@@ -167,11 +172,11 @@ pub fn same_slices(
     tell: Tell,
     case: &[u8],
     expected: usize,
-    tape: &[u64; 4096],
-    register: &[u64; 1026],
-    table: &[u16; 258],
-    channel: &[u64; 258],
-    output: &[u64; 4096],
+    tape: &[u64; CELLS],
+    register: &[u64; LANES],
+    table: &[u16; ENTRIES],
+    channel: &[u64; PLACES],
+    output: &[u64; OUTPUTS],
 ) -> bool {
     let given = given_at(case);
     let at = expected_at(case, expected);

@@ -1,18 +1,20 @@
 // The machine of a case: twelve numbers, the saved calls and the saved pointers.
 ghost use Prim.Native.Nat.{_<_, _≤_};
+ghost use Rattle.basics.specs.Limits.{depth};
+use crate::list::SAVED;
 use crate::list::after;
 use crate::list::word;
 use crate::list::word_on;
 use crate::tell::Tell;
-use hops::place::Place;
 use machine::machine::Machine;
+use machine_numbers::numbers::Numbers;
 
 // How many entries of a stack are given that is said to hold n.
 fn given(n: usize) -> usize
-    ensures { λ r. ⌜ r ≤ 256 ⌝ }
+    ensures { λ r. ⌜ r ≤ depth ⌝ }
 {
-    if 256 < n {
-        return 256;
+    if SAVED < n {
+        return SAVED;
     }
     n
 }
@@ -30,8 +32,8 @@ pub fn after_machine(case: &[u8], at: usize) -> usize {
     after(case, at_refs(case, at), 4 * given(word_on(case, at, 44)))
 }
 
-fn place_at(case: &[u8], at: usize) -> Place {
-    Place {
+fn numbers_at(case: &[u8], at: usize) -> Numbers {
+    Numbers {
         depth: word_on(case, at, 40),
         saved: word_on(case, at, 44),
         pointer: word_on(case, at, 4),
@@ -70,8 +72,13 @@ fn pointer(x: u32) -> usize {
 }
 
 // Entry i of a machine's stack; then the same entry set.
-fn saved_entry(calls: &[u16; 256], refs: &[u32; 256], stack: Stack, i: usize) -> usize
-    requires { ⌜ i < 256 ⌝ }
+fn saved_entry(
+    calls: &[u16; Machine::CALLS],
+    refs: &[u32; Machine::REFS],
+    stack: Stack,
+    i: usize,
+) -> usize
+    requires { ⌜ i < depth ⌝ }
 {
     match stack {
         Stack::Calls => call(calls[i]),
@@ -79,8 +86,14 @@ fn saved_entry(calls: &[u16; 256], refs: &[u32; 256], stack: Stack, i: usize) ->
     }
 }
 
-fn save_entry(calls: &mut [u16; 256], refs: &mut [u32; 256], stack: Stack, i: usize, entry: usize)
-    requires { ⌜ i < 256 ⌝ }
+fn save_entry(
+    calls: &mut [u16; Machine::CALLS],
+    refs: &mut [u32; Machine::REFS],
+    stack: Stack,
+    i: usize,
+    entry: usize,
+)
+    requires { ⌜ i < depth ⌝ }
 {
     match stack {
         Stack::Calls => {
@@ -98,13 +111,13 @@ fn save_stack(
     at: usize,
     stack: Stack,
     n: usize,
-    calls: &mut [u16; 256],
-    refs: &mut [u32; 256],
+    calls: &mut [u16; Machine::CALLS],
+    refs: &mut [u32; Machine::REFS],
 ) {
     let mut from = at;
     let mut i: usize = 0;
     while i < n {
-        if 256 <= i {
+        if SAVED <= i {
             return;
         }
         save_entry(calls, refs, stack, i, given_entry(case, from, stack));
@@ -114,14 +127,14 @@ fn save_stack(
 }
 
 pub fn machine_at(case: &[u8], at: usize) -> Machine {
-    let place = place_at(case, at);
-    let mut calls = [0u16; 256];
-    let mut refs = [0u32; 256];
+    let numbers = numbers_at(case, at);
+    let mut calls = [0u16; Machine::CALLS];
+    let mut refs = [0u32; Machine::REFS];
     save_stack(
         case,
         at_calls(case, at),
         Stack::Calls,
-        place.depth,
+        numbers.depth,
         &mut calls,
         &mut refs,
     );
@@ -129,40 +142,40 @@ pub fn machine_at(case: &[u8], at: usize) -> Machine {
         case,
         at_refs(case, at),
         Stack::Pointers,
-        place.saved,
+        numbers.saved,
         &mut calls,
         &mut refs,
     );
     Machine {
         calls: calls,
         refs: refs,
-        place: place,
+        numbers: numbers,
     }
 }
 
 // The machine's numbers: where it is, what of its storage is in use, and what it has taken, written and saved.
-fn same_position(tell: Tell, e: Place, m: Place) -> bool {
+fn same_position(tell: Tell, e: Numbers, m: Numbers) -> bool {
     tell.same(b"position", e.position, m.position)
         && tell.same(b"pointer", e.pointer, m.pointer)
         && tell.same(b"counted length", e.length, m.length)
         && tell.same(b"halted", e.halted as usize, m.halted as usize)
 }
 
-fn same_use(tell: Tell, e: Place, m: Place) -> bool {
+fn same_use(tell: Tell, e: Numbers, m: Numbers) -> bool {
     tell.same(b"lanes", e.lanes, m.lanes)
         && tell.same(b"functions", e.functions, m.functions)
         && tell.same(b"first place of the channel", e.first, m.first)
         && tell.same(b"values waiting", e.waiting, m.waiting)
 }
 
-fn same_counts(tell: Tell, e: Place, m: Place) -> bool {
+fn same_counts(tell: Tell, e: Numbers, m: Numbers) -> bool {
     tell.same(b"inputs taken", e.taken, m.taken)
         && tell.same(b"outputs written", e.written, m.written)
         && tell.same(b"calls saved", e.depth, m.depth)
         && tell.same(b"pointers saved", e.saved, m.saved)
 }
 
-fn same_place(tell: Tell, e: Place, m: Place) -> bool {
+fn same_numbers(tell: Tell, e: Numbers, m: Numbers) -> bool {
     same_position(tell, e, m) && same_use(tell, e, m) && same_counts(tell, e, m)
 }
 
@@ -174,13 +187,13 @@ fn same_stack(
     at: usize,
     stack: Stack,
     n: usize,
-    calls: &[u16; 256],
-    refs: &[u32; 256],
+    calls: &[u16; Machine::CALLS],
+    refs: &[u32; Machine::REFS],
 ) -> bool {
     let mut from = at;
     let mut i: usize = 0;
     while i < n {
-        if 256 <= i {
+        if SAVED <= i {
             return true;
         }
         if !tell.same(
@@ -198,10 +211,10 @@ fn same_stack(
 
 // Whether the machine is the one at a place.
 pub fn same_machine(tell: Tell, case: &[u8], at: usize, m: Machine) -> bool {
-    let came = m.place;
+    let came = m.numbers;
     let calls = m.calls;
     let refs = m.refs;
-    same_place(tell, place_at(case, at), came)
+    same_numbers(tell, numbers_at(case, at), came)
         && same_stack(
             tell,
             b"a saved call",

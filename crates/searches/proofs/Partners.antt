@@ -9,8 +9,9 @@ use lib.Dec.{eqb}
 use lib.ListN.{length, getD, set, replicate, length-set, length-replicate}
 use borrow.Author.Tests.{lt-ltb, le-ltb, eq-eqb, ne-eqb}
 use lib.Seq.{getD-set-same, getD-set-other}
+use Rattle.basics.specs.Pick.{pick}
 use Rattle.lanes.proofs.Ints.{lt-or-ge}
-use Rattle.searches.specs.Found.{pick, endOf, elseOf, openOf, partnerOf, Noted, lookedUp}
+use Rattle.searches.specs.Found.{endOf, elseOf, openOf, partnerOf, Noted, lookedUp}
 
 module _ (ks : List ℕ) (i w : ℕ) (p : w ≡ partnerOf ks i) where
   pub of-function : getD ks i 0 ≡ 2 → w ≡ endOf ks (i + 1)

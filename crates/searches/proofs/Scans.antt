@@ -10,10 +10,11 @@ use native.Mathlib.Numerals.{add-one}
 use lib.Dec.{eqb, eqb·suc-zero}
 use lib.ListN.{length, getD, take, drop, length-map, length-reverse, List·getD-map, drop-of-length-le}
 use lib.Seq.{take-suc, drop-cons, length-take-le}
-use Rattle.ops.specs.Op.{Mark}
-use Rattle.ops.specs.Op.Mark.{up, down, mid, flat}
+use Rattle.basics.specs.Pick.{pick}
+use Rattle.ops.specs.Syntax.{Bracket}
+use Rattle.ops.specs.Syntax.Bracket.{up, down, mid, flat}
 use Rattle.machine_model.specs.Scan.{toEnd, toElse, toOpen, kth}
-use Rattle.searches.specs.Found.{pick, rowMark, placeOr, depthAfter, leavesAt, depthBefore, opensAt, hitsAt, lessAfter, endOf, elseOf, forwardOf}
+use Rattle.searches.specs.Found.{rowBracket, placeOr, depthAfter, leavesAt, depthBefore, opensAt, hitsAt, lessAfter, endOf, elseOf, forwardOf}
 
 -- ---- what an op does at a depth, as the code tests it
 
@@ -58,23 +59,23 @@ less-mark zero = refl
 less-mark (suc n) = omega arith
 
 -- an op that is neither End nor Else opens or does nothing to a search
-opening : (P : Mark → Type 0) → P up → P flat → (a b c : Bool) → P (pick a up (pick b up (pick c up flat)))
+opening : (P : Bracket → Type 0) → P up → P flat → (a b c : Bool) → P (pick a up (pick b up (pick c up flat)))
 unfolding pick
 opening P u f true b c = u
 opening P u f false true c = u
 opening P u f false false true = u
 opening P u f false false false = f
 
-pub leaves-other : (e : Bool) (k d : ℕ) → eqb k 8 ≡ false → eqb k 7 ≡ false → false ≡ leavesAt e (rowMark k) d
-unfolding leavesAt rowMark pick
+pub leaves-other : (e : Bool) (k d : ℕ) → eqb k 8 ≡ false → eqb k 7 ≡ false → false ≡ leavesAt e (rowBracket k) d
+unfolding leavesAt rowBracket pick
 leaves-other e k d z f = rw (z, f) (opening (λ m. false ≡ leavesAt e m d) refl refl (eqb k 2) (eqb k 5) (eqb k 6))
 
-pub before-other : (k : ℕ) → eqb k 8 ≡ false → eqb k 7 ≡ false → 0 ≡ depthBefore (rowMark k) 0
-unfolding depthBefore rowMark pick
+pub before-other : (k : ℕ) → eqb k 8 ≡ false → eqb k 7 ≡ false → 0 ≡ depthBefore (rowBracket k) 0
+unfolding depthBefore rowBracket pick
 before-other k e f = rw (e, f) (opening (λ m. 0 ≡ depthBefore m 0) refl refl (eqb k 2) (eqb k 5) (eqb k 6))
 
-pub opens-other : (k d : ℕ) → eqb k 2 ≡ false → eqb k 5 ≡ false → eqb k 6 ≡ false → false ≡ opensAt (rowMark k) d
-unfolding opensAt rowMark pick
+pub opens-other : (k d : ℕ) → eqb k 2 ≡ false → eqb k 5 ≡ false → eqb k 6 ≡ false → false ≡ opensAt (rowBracket k) d
+unfolding opensAt rowBracket pick
 opens-other k d e f g = rw (e, f, g) (by (eqb k 8) (eqb k 7))
   where
     by : (a b : Bool) → false ≡ opensAt (pick a down (pick b mid flat)) d
@@ -90,7 +91,7 @@ pub record Turning {A : Type 0} (to : ℕ → ℕ → List A → Option ℕ) (st
   pub turn : (p d : ℕ) (m : A) (ms : List A) → to p d (m ∷ ms) ≡ pick (stop m d) (some p) (to (suc p) (go m d) ms)
 
 -- the search forward over the marks of a patch
-unfoldable pub toLeave : Bool → ℕ → ℕ → List Mark → Option ℕ
+unfoldable pub toLeave : Bool → ℕ → ℕ → List Bracket → Option ℕ
 toLeave true p d ms = toElse p d ms
 toLeave false p d ms = toEnd p d ms
 
@@ -102,7 +103,7 @@ forward-turning e = record { over = over e; turn = turn e }
     over true p d = refl
     over false p d = refl
 
-    turn : (e : Bool) (p d : ℕ) (m : Mark) (ms : List Mark) → toLeave e p d (m ∷ ms) ≡ pick (leavesAt e m d) (some p) (toLeave e (suc p) (depthAfter m d) ms)
+    turn : (e : Bool) (p d : ℕ) (m : Bracket) (ms : List Bracket) → toLeave e p d (m ∷ ms) ≡ pick (leavesAt e m d) (some p) (toLeave e (suc p) (depthAfter m d) ms)
     turn true p d up ms = refl
     turn true p zero down ms = refl
     turn true p (suc d) down ms = refl
@@ -161,7 +162,7 @@ module _ {A : Type 0} {to : ℕ → ℕ → List A → Option ℕ} {stop : A →
       rw (drop-of-length-le (map row ks) {i = i} (omega arith), t .over i d) refl
 
 -- the search forward from a place, as the partner's definitions say it
-pub starts : (e : Bool) (ks : List ℕ) (from : ℕ) → searched (toLeave e) rowMark ks from 0 ≡ forwardOf e ks from
+pub starts : (e : Bool) (ks : List ℕ) (from : ℕ) → searched (toLeave e) rowBracket ks from 0 ≡ forwardOf e ks from
 unfolding searched toLeave forwardOf endOf elseOf
 starts true ks from = refl
 starts false ks from = refl
@@ -170,13 +171,13 @@ starts false ks from = refl
 
 -- the search back from place i at depth d
 unfoldable pub back : List ℕ → ℕ → ℕ → ℕ
-back ks i d = placeOr (length ks) (toOpen d (reverse (take i (map rowMark ks))))
+back ks i d = placeOr (length ks) (toOpen d (reverse (take i (map rowBracket ks))))
 
-reverse-snoc : (xs : List Mark) (y : Mark) (r : List Mark) → reverseAux (xs ++ (y ∷ [])) r ≡ y ∷ reverseAux xs r
+reverse-snoc : (xs : List Bracket) (y : Bracket) (r : List Bracket) → reverseAux (xs ++ (y ∷ [])) r ≡ y ∷ reverseAux xs r
 reverse-snoc [] y r = refl
 reverse-snoc (x ∷ xs) y r = reverse-snoc xs y (x ∷ r)
 
-open-turn : (d : ℕ) (m : Mark) (ms : List Mark) → toOpen d (m ∷ ms) ≡ pick (opensAt m d) (some (length ms)) (toOpen (depthBefore m d) ms)
+open-turn : (d : ℕ) (m : Bracket) (ms : List Bracket) → toOpen d (m ∷ ms) ≡ pick (opensAt m d) (some (length ms)) (toOpen (depthBefore m d) ms)
 unfolding toOpen pick opensAt depthBefore
 open-turn zero up ms = refl
 open-turn (suc d) up ms = refl
@@ -189,24 +190,24 @@ unfolding back toOpen
 back-none ks i d e = rw e refl
 
 module _ (ks : List ℕ) (i j d : ℕ) (s : i ≡ j + 1) (h : j < length ks) where
-  turned-back : back ks i d ≡ placeOr (length ks) (pick (opensAt (rowMark (getD ks j 0)) d) (some j) (toOpen (depthBefore (rowMark (getD ks j 0)) d) (reverse (take j (map rowMark ks)))))
+  turned-back : back ks i d ≡ placeOr (length ks) (pick (opensAt (rowBracket (getD ks j 0)) d) (some j) (toOpen (depthBefore (rowBracket (getD ks j 0)) d) (reverse (take j (map rowBracket ks)))))
   unfolding back
   turned-back =
-      let ms = map rowMark ks in
-      let l : length ms ≡ length ks = length-map ks rowMark in
+      let ms = map rowBracket ks in
+      let l : length ms ≡ length ks = length-map ks rowBracket in
       let k = getD ks j 0 in
-      let cut : take (suc j) ms ≡ take j ms ++ (rowMark k ∷ []) = take-suc ms j (rowMark 0) (omega arith) ∙ ap (λ (z : Mark). take j ms ++ (z ∷ [])) (List·getD-map rowMark ks j 0) in
+      let cut : take (suc j) ms ≡ take j ms ++ (rowBracket k ∷ []) = take-suc ms j (rowBracket 0) (omega arith) ∙ ap (λ (z : Bracket). take j ms ++ (z ∷ [])) (List·getD-map rowBracket ks j 0) in
       let n : length (reverse (take j ms)) ≡ j = length-reverse (take j ms) ∙ length-take-le j ms (omega arith) in
       ap (λ (z : ℕ). placeOr (length ks) (toOpen d (reverse (take z ms)))) (s ∙ add-one j)
-      ∙ ap (λ (z : List Mark). placeOr (length ks) (toOpen d (reverse z))) cut
-      ∙ ap (λ (z : List Mark). placeOr (length ks) (toOpen d z)) (reverse-snoc (take j ms) (rowMark k) [])
-      ∙ ap (placeOr (length ks)) (open-turn d (rowMark k) (reverse (take j ms)))
+      ∙ ap (λ (z : List Bracket). placeOr (length ks) (toOpen d (reverse z))) cut
+      ∙ ap (λ (z : List Bracket). placeOr (length ks) (toOpen d z)) (reverse-snoc (take j ms) (rowBracket k) [])
+      ∙ ap (placeOr (length ks)) (open-turn d (rowBracket k) (reverse (take j ms)))
       ∙ rw n refl
 
-  pub back-here : opensAt (rowMark (getD ks j 0)) d ≡ true → j ≡ back ks i d
+  pub back-here : opensAt (rowBracket (getD ks j 0)) d ≡ true → j ≡ back ks i d
   unfolding pick
   back-here e = sym (turned-back ∙ rw e refl)
 
-  pub back-on : opensAt (rowMark (getD ks j 0)) d ≡ false → back ks j (depthBefore (rowMark (getD ks j 0)) d) ≡ back ks i d
+  pub back-on : opensAt (rowBracket (getD ks j 0)) d ≡ false → back ks j (depthBefore (rowBracket (getD ks j 0)) d) ≡ back ks i d
   unfolding pick back
   back-on e = sym (turned-back ∙ rw e refl)

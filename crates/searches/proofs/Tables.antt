@@ -9,12 +9,13 @@ use lib.Dec.{ltb, eqb}
 use lib.ListN.{length, getD, set, take, drop, length-append, length-set, take-append-drop}
 use lib.Seq.{take-suc, length-take-le, getD-append-seam, getD-take, set-split}
 use borrow.Author.Tests.{lt-ltb, le-ltb, eq-eqb, ne-eqb, ltb-true, ltb-false, eqb-true, eqb-false}
+use Rattle.basics.specs.Pick.{pick}
+use Rattle.basics.proofs.Tests.{byCase}
 use Rattle.byte_fields.specs.Storage.{fill}
-use Rattle.testing_device.proofs.Words.{byCase}
 use Rattle.machine_model.specs.Step.{enter}
 use Rattle.machine_model.specs.Formed.{Each, Rising}
 use Rattle.machine_model.proofs.Each.{each-at}
-use Rattle.searches.specs.Found.{pick, hasIn, siftOf, enteredIn, countedIn}
+use Rattle.searches.specs.Found.{hasIn, siftOf, enteredIn, countedIn}
 
 -- ---- a turn of the search, and of the last place's way down
 

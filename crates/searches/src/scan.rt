@@ -1,31 +1,35 @@
 // The search for a partner: labelled scans over the ops, left at depth zero, that yield the partner's place by break. A run makes it once for each op
 // that it meets.
 ghost use mathlib.Core.Path.{_≡_};
-ghost use Prim.Native.Nat.{ℕ, _+_, _≤_, _<_};
+ghost use Prim.Native.Nat.{_+_, _≤_, _<_};
 ghost use lib.ListN.{length};
-ghost use Rattle.searches.specs.Found.{rowMark, rowFunction, depthAfter, leavesAt, depthBefore, opensAt, hitsAt, lessAfter, endOf, elseOf, openOf, markOf, forwardOf, partnerOf, Noted, lookedUp};
+ghost use Rattle.basics.specs.Limits.{mostOps};
+ghost use Rattle.searches.specs.Found.{rowBracket, rowFunction, depthAfter, leavesAt, depthBefore, opensAt, hitsAt, lessAfter, endOf, elseOf, openOf, markOf, forwardOf, partnerOf, Noted, lookedUp};
+use basics::wide::wide_short;
+use kind_table::row;
+use patch_reader::reader::Read;
 
 // The depth after an op of row k.
 fn after(k: u8, d: usize) -> usize
     requires { ⌜ d < 65536 ⌝ }
-    ensures { λ r. ⌜ (r ≡ depthAfter (rowMark k) d) × (r ≤ d + 1) ⌝ }
+    ensures { λ r. ⌜ (r ≡ depthAfter (rowBracket k) d) × (r ≤ d + 1) ⌝ }
 {
-    if k == 8 {
+    if k == row::END {
         if d == 0 {
             return d;
         }
         return d - 1;
     }
-    if k == 7 {
+    if k == row::ELSE {
         return d;
     }
-    if k == 2 {
+    if k == row::FUNCTION {
         return d + 1;
     }
-    if k == 5 {
+    if k == row::WHILE {
         return d + 1;
     }
-    if k == 6 {
+    if k == row::IF {
         return d + 1;
     }
     d
@@ -33,12 +37,12 @@ fn after(k: u8, d: usize) -> usize
 
 // Whether the search forward ends at an op of row k: an End at depth 0, and with `either` an Else at depth 0 too.
 fn leaves(k: u8, d: usize, either: bool) -> bool
-    ensures { λ r. ⌜ r ≡ leavesAt either (rowMark k) d ⌝ }
+    ensures { λ r. ⌜ r ≡ leavesAt either (rowBracket k) d ⌝ }
 {
-    if k == 8 {
+    if k == row::END {
         return d == 0;
     }
-    if k == 7 {
+    if k == row::ELSE {
         if either {
             return d == 0;
         }
@@ -48,17 +52,17 @@ fn leaves(k: u8, d: usize, either: bool) -> bool
 }
 
 // The search forward in the bracket open before `from`, to its End, or with `either` to its Else or End; the op count where there is none.
-fn forward(kinds: &[u8], from: usize, either: bool) -> usize
-    requires { ⌜ (from ≤ length (now kinds)) × (length (now kinds) ≤ 4096) ⌝ }
-    ensures { λ r. ⌜ (r ≡ forwardOf either (now (kinds .entry)) from) × (r ≤ length (now (kinds .entry))) ⌝ }
+fn forward(rows: &[u8], from: usize, either: bool) -> usize
+    requires { ⌜ (from ≤ length (now rows)) × (length (now rows) ≤ mostOps) ⌝ }
+    ensures { λ r. ⌜ (r ≡ forwardOf either (now (rows .entry)) from) × (r ≤ length (now (rows .entry))) ⌝ }
 {
     let mut i = from;
     let mut depth: usize = 0;
     let found = 'scan: loop {
-        if kinds.len() <= i {
-            break 'scan kinds.len();
+        if rows.len() <= i {
+            break 'scan rows.len();
         }
-        let k = kinds[i];
+        let k = rows[i];
         if leaves(k, depth, either) {
             break 'scan i;
         }
@@ -69,31 +73,31 @@ fn forward(kinds: &[u8], from: usize, either: bool) -> usize
 }
 
 // The End that closes the bracket open before `from`; the op count where there is none.
-fn jmp_to_end(kinds: &[u8], from: usize) -> usize
-    requires { ⌜ (from ≤ length (now kinds)) × (length (now kinds) ≤ 4096) ⌝ }
-    ensures { λ r. ⌜ (r ≡ endOf (now (kinds .entry)) from) × (r ≤ length (now (kinds .entry))) ⌝ }
+fn jmp_to_end(rows: &[u8], from: usize) -> usize
+    requires { ⌜ (from ≤ length (now rows)) × (length (now rows) ≤ mostOps) ⌝ }
+    ensures { λ r. ⌜ (r ≡ endOf (now (rows .entry)) from) × (r ≤ length (now (rows .entry))) ⌝ }
 {
-    forward(kinds, from, false)
+    forward(rows, from, false)
 }
 
 // The Else at depth one, or the End, of the If before `from`; the op count where there is none.
-fn jmp_to_else(kinds: &[u8], from: usize) -> usize
-    requires { ⌜ (from ≤ length (now kinds)) × (length (now kinds) ≤ 4096) ⌝ }
-    ensures { λ r. ⌜ (r ≡ elseOf (now (kinds .entry)) from) × (r ≤ length (now (kinds .entry))) ⌝ }
+fn jmp_to_else(rows: &[u8], from: usize) -> usize
+    requires { ⌜ (from ≤ length (now rows)) × (length (now rows) ≤ mostOps) ⌝ }
+    ensures { λ r. ⌜ (r ≡ elseOf (now (rows .entry)) from) × (r ≤ length (now (rows .entry))) ⌝ }
 {
-    forward(kinds, from, true)
+    forward(rows, from, true)
 }
 
 fn opens(k: u8, d: usize) -> bool
-    ensures { λ r. ⌜ r ≡ opensAt (rowMark k) d ⌝ }
+    ensures { λ r. ⌜ r ≡ opensAt (rowBracket k) d ⌝ }
 {
-    if k == 2 {
+    if k == row::FUNCTION {
         return d == 0;
     }
-    if k == 5 {
+    if k == row::WHILE {
         return d == 0;
     }
-    if k == 6 {
+    if k == row::IF {
         return d == 0;
     }
     false
@@ -102,42 +106,42 @@ fn opens(k: u8, d: usize) -> bool
 // The depth before an op of row k, going back.
 fn before_op(k: u8, d: usize) -> usize
     requires { ⌜ d < 65536 ⌝ }
-    ensures { λ r. ⌜ (r ≡ depthBefore (rowMark k) d) × (r ≤ d + 1) ⌝ }
+    ensures { λ r. ⌜ (r ≡ depthBefore (rowBracket k) d) × (r ≤ d + 1) ⌝ }
 {
-    if k == 8 {
+    if k == row::END {
         return d + 1;
     }
-    if k == 7 {
+    if k == row::ELSE {
         return d;
     }
     if d == 0 {
         return d;
     }
-    if k == 2 {
+    if k == row::FUNCTION {
         return d - 1;
     }
-    if k == 5 {
+    if k == row::WHILE {
         return d - 1;
     }
-    if k == 6 {
+    if k == row::IF {
         return d - 1;
     }
     d
 }
 
 // The op that the End at `at` closes, searched backwards; the op count where there is none.
-fn get_matching_for_end(kinds: &[u8], at: usize) -> usize
-    requires { ⌜ (at ≤ length (now kinds)) × (length (now kinds) ≤ 4096) ⌝ }
-    ensures { λ r. ⌜ (r ≡ openOf (now (kinds .entry)) at) × (r ≤ length (now (kinds .entry))) ⌝ }
+fn get_matching_for_end(rows: &[u8], at: usize) -> usize
+    requires { ⌜ (at ≤ length (now rows)) × (length (now rows) ≤ mostOps) ⌝ }
+    ensures { λ r. ⌜ (r ≡ openOf (now (rows .entry)) at) × (r ≤ length (now (rows .entry))) ⌝ }
 {
     let mut i = at;
     let mut depth: usize = 0;
     let found = 'scan: loop {
         if i == 0 {
-            break 'scan kinds.len();
+            break 'scan rows.len();
         }
         i -= 1;
-        let k = kinds[i];
+        let k = rows[i];
         if opens(k, depth) {
             break 'scan i;
         }
@@ -147,39 +151,33 @@ fn get_matching_for_end(kinds: &[u8], at: usize) -> usize
 }
 
 // Where the op at i may lead: the End, the Else or the opening op that goes with it; 0 for an op that does not steer by a partner.
-fn partner(kinds: &[u8], i: usize) -> usize
-    requires { ⌜ (i < length (now kinds)) × (length (now kinds) ≤ 4096) ⌝ }
-    ensures { λ r. ⌜ (r ≡ partnerOf (now (kinds .entry)) i) × (r ≤ 4096) ⌝ }
+fn partner(rows: &[u8], i: usize) -> usize
+    requires { ⌜ (i < length (now rows)) × (length (now rows) ≤ mostOps) ⌝ }
+    ensures { λ r. ⌜ (r ≡ partnerOf (now (rows .entry)) i) × (r ≤ mostOps) ⌝ }
 {
-    let k = kinds[i];
+    let k = rows[i];
     match k {
-        2 => jmp_to_end(kinds, i + 1),
-        5 => jmp_to_end(kinds, i + 1),
-        6 => jmp_to_else(kinds, i + 1),
-        7 => jmp_to_end(kinds, i + 1),
-        8 => get_matching_for_end(kinds, i),
+        row::FUNCTION => jmp_to_end(rows, i + 1),
+        row::WHILE => jmp_to_end(rows, i + 1),
+        row::IF => jmp_to_else(rows, i + 1),
+        row::ELSE => jmp_to_end(rows, i + 1),
+        row::END => get_matching_for_end(rows, i),
         _ => 0,
     }
 }
 
-fn wide(x: u16) -> usize
-    ensures { λ r. ⌜ r ≡ x ⌝ }
-{
-    x as usize
-}
-
 // The partner of the op at i: as it was noted, or searched for now and noted. The rows beyond End's have none.
-pub fn look_up(kinds: &[u8], partners: &mut [u16; 4096], i: usize) -> usize
-    requires { ⌜ (i < length (now kinds)) × (length (now kinds) ≤ 4096) × Noted (now kinds) (now partners) ⌝ }
-    ensures { λ r. ⌜ (r ≡ partnerOf (now (kinds .entry)) i) × (now (partners .exit) ≡ lookedUp (now (kinds .entry)) (now (partners .entry)) i) × Noted (now (kinds .entry)) (now (partners .exit)) ⌝ }
+pub fn look_up(rows: &[u8], partners: &mut [u16; Read::OPS], i: usize) -> usize
+    requires { ⌜ (i < length (now rows)) × (length (now rows) ≤ mostOps) × Noted (now rows) (now partners) ⌝ }
+    ensures { λ r. ⌜ (r ≡ partnerOf (now (rows .entry)) i) × (now (partners .exit) ≡ lookedUp (now (rows .entry)) (now (partners .entry)) i) × Noted (now (rows .entry)) (now (partners .exit)) ⌝ }
 {
-    let k = kinds[i];
-    if 8 < k {
+    let k = rows[i];
+    if row::END < k {
         return 0;
     }
-    let noted = wide(partners[i]);
+    let noted = wide_short(partners[i]);
     if noted == 0 {
-        let p = partner(kinds, i);
+        let p = partner(rows, i);
         partners[i] = (p + 1) as u16;
         return p;
     }
@@ -190,7 +188,7 @@ pub fn look_up(kinds: &[u8], partners: &mut [u16; 4096], i: usize) -> usize
 fn hits(k: u8, j: u64) -> bool
     ensures { λ r. ⌜ r ≡ hitsAt (rowFunction k) j ⌝ }
 {
-    if k == 2 {
+    if k == row::FUNCTION {
         return j == 0;
     }
     false
@@ -199,7 +197,7 @@ fn hits(k: u8, j: u64) -> bool
 fn less(k: u8, j: u64) -> u64
     ensures { λ r. ⌜ r ≡ lessAfter (rowFunction k) j ⌝ }
 {
-    if k == 2 {
+    if k == row::FUNCTION {
         if j == 0 {
             return j;
         }
@@ -209,17 +207,17 @@ fn less(k: u8, j: u64) -> u64
 }
 
 // The n-th Function mark, counted from 0; the op count where there is none.
-pub fn nth_function(kinds: &[u8], n: u64) -> usize
-    requires { ⌜ length (now kinds) ≤ 4096 ⌝ }
-    ensures { λ r. ⌜ r ≡ markOf (now (kinds .entry)) n ⌝ }
+pub fn nth_function(rows: &[u8], n: u64) -> usize
+    requires { ⌜ length (now rows) ≤ mostOps ⌝ }
+    ensures { λ r. ⌜ r ≡ markOf (now (rows .entry)) n ⌝ }
 {
     let mut i: usize = 0;
     let mut left = n;
     let found = 'scan: loop {
-        if kinds.len() <= i {
-            break 'scan kinds.len();
+        if rows.len() <= i {
+            break 'scan rows.len();
         }
-        let k = kinds[i];
+        let k = rows[i];
         if hits(k, left) {
             break 'scan i;
         }

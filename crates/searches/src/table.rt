@@ -1,6 +1,6 @@
 // The function table: the places of the Function marks that have run or were called, rising, each once.
 ghost use mathlib.Core.Path.{_≡_};
-ghost use Prim.Native.Nat.{ℕ, _+_, _≤_, _<_};
+ghost use Prim.Native.Nat.{_+_, _≤_, _<_};
 ghost use lib.ListN.{length, take};
 ghost use Rattle.searches.specs.Found.{hasIn, siftOf, enteredIn, countedIn};
 ghost use Rattle.machine_model.specs.Formed.{Rising};

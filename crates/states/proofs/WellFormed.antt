@@ -8,17 +8,17 @@ use lib.Dec.{leb, ltb, eqb}
 use lib.ListN.{length, getD, take, List·getD-map}
 use lib.Seq.{length-take-le}
 use borrow.Author.Tests.{leb-true, ltb-true, le-leb, lt-ltb}
-use Rattle.ops.specs.Op.{Op, isFunction}
-use Rattle.ops.specs.Op.Plain.{comment}
-use Rattle.ops.specs.Op.Op.{plain}
+use Rattle.basics.proofs.Tests.{and-left, and-right}
+use Rattle.ops.specs.Syntax.{Op, isFunction}
+use Rattle.ops.specs.Syntax.Plain.{comment}
+use Rattle.ops.specs.Syntax.Op.{plain}
 use Rattle.testing_device.proofs.Rings.{length-ring}
-use Rattle.testing_device.proofs.Words.{and-left, and-right}
 use Rattle.machine_model.specs.State.{Given}
 use Rattle.machine_model.specs.Scan.{opAt, functions}
 use Rattle.machine_model.specs.Formed.{Each, Rising, Marked}
 use Rattle.machine_model.proofs.Each.{each-to}
 use Rattle.searches.specs.Found.{rowFunction}
-use Rattle.hops.specs.declared.place.Place.{Place}
+use Rattle.machine_numbers.specs.declared.numbers.Numbers.{Numbers}
 use Rattle.machine_step.specs.Held.{Held}
 use Rattle.bridge.specs.Decoded.{codeOf, givenOf}
 use Rattle.bridge.specs.Fits.{Fits}
@@ -51,7 +51,7 @@ has-room g ts ch r = rw (le-leb _ _ (r .wide), le-leb _ _ (r .tabled), le-leb _ 
 
 -- ---- the limits
 
-pub record Limits (p : Place) : Type 0 where
+pub record Limits (p : Numbers) : Type 0 where
   pub near : p .pointer ≤ 1_000_000_000
   pub short : p .length ≤ 2_000_000_000
   pub narrow : p .lanes ≤ 1024
@@ -61,7 +61,7 @@ pub record Limits (p : Place) : Type 0 where
   pub few-sent : p .waiting ≤ 256
   pub first : p .first < 256
 
-pub limits : (p : Place) → inLimits p ≡ true → Limits p
+pub limits : (p : Numbers) → inLimits p ≡ true → Limits p
 unfolding inLimits
 limits p e =
     let e7 = parts _ _ e in let e6 = parts _ _ (e7 .0) in let e5 = parts _ _ (e6 .0) in let e4 = parts _ _ (e5 .0) in
@@ -77,7 +77,7 @@ limits p e =
       first = ltb-true _ _ (e7 .1);
     }
 
-in-limits : (p : Place) → Limits p → inLimits p ≡ true
+in-limits : (p : Numbers) → Limits p → inLimits p ≡ true
 unfolding inLimits
 in-limits p l =
     rw (
@@ -91,18 +91,18 @@ in-limits p l =
       lt-ltb _ _ (l .first),
     ) refl
 
-pub record Within (p : Place) (ops inputs outputs : ℕ) : Type 0 where
+pub record Within (p : Numbers) (ops inputs outputs : ℕ) : Type 0 where
   pub within : p .position ≤ ops
   pub read : p .taken ≤ inputs
   pub written : p .written ≤ outputs
 
-within : (p : Place) (ops inputs outputs : ℕ) → inPlace p ops inputs outputs ≡ true → Within p ops inputs outputs
+within : (p : Numbers) (ops inputs outputs : ℕ) → inPlace p ops inputs outputs ≡ true → Within p ops inputs outputs
 unfolding inPlace
 within p ops inputs outputs e =
     let e2 = parts _ _ e in let e1 = parts _ _ (e2 .0) in
     record { within = leb-true _ _ (e1 .0); read = leb-true _ _ (e1 .1); written = leb-true _ _ (e2 .1) }
 
-in-place : (p : Place) (ops inputs outputs : ℕ) → Within p ops inputs outputs → inPlace p ops inputs outputs ≡ true
+in-place : (p : Numbers) (ops inputs outputs : ℕ) → Within p ops inputs outputs → inPlace p ops inputs outputs ≡ true
 unfolding inPlace
 in-place p ops inputs outputs w = rw (le-leb _ _ (w .within), le-leb _ _ (w .read), le-leb _ _ (w .written)) refl
 
@@ -167,13 +167,13 @@ every (x ∷ xs) = (omega arith, every xs)
 
 module _ (s input : List ℕ) (c : Held) (kc : length (c .calls) ≡ 256) (kr : length (c .refs) ≡ 256) where
   -- a state that the test passes fits the patch
-  pub formed-fits : isFormed (codeOf s .kinds) (length input) c ≡ true → Fits s input c
+  pub formed-fits : isFormed (codeOf s .rows) (length input) c ≡ true → Fits s input c
   unfolding isFormed callsBelow refsWithin tableNames givenOf
   formed-fits e =
       let e5 = parts _ _ e in let e4 = parts _ _ (e5 .0) in let e3 = parts _ _ (e4 .0) in let e2 = parts _ _ (e3 .0) in let e1 = parts _ _ (e2 .0) in
       let r = room (c .register) (c .table) (c .channel) (e1 .0) in
-      let l = limits (c .place) (e1 .1) in
-      let w = within (c .place) (length (codeOf s .kinds)) (length input) (length (c .output)) (e2 .1) in
+      let l = limits (c .numbers) (e1 .1) in
+      let w = within (c .numbers) (length (codeOf s .rows)) (length input) (length (c .output)) (e2 .1) in
       let rs = rows s input (length (c .output)) in
       let n = rs .many in
       record {
@@ -194,23 +194,23 @@ module _ (s input : List ℕ) (c : Held) (kc : length (c .calls) ≡ 256) (kr : 
         formed = record {
           near = l .near;
           short = l .short;
-          narrow = omega (arith, l .narrow, length-take-le (c .place .lanes) (c .register) (omega (arith, l .narrow, r .wide)));
-          few-entered = omega (arith, l .few-entered, length-take-le (c .place .functions) (c .table) (omega (arith, l .few-entered, r .tabled)));
-          few-calls = omega (arith, l .few-calls, length-take-le (c .place .depth) (c .calls) (omega (arith, l .few-calls, kc)));
-          few-refs = omega (arith, l .few-refs, length-take-le (c .place .saved) (c .refs) (omega (arith, l .few-refs, kr)));
-          few-sent = omega (arith, l .few-sent, length-ring (c .channel) (c .place .first) (c .place .waiting));
+          narrow = omega (arith, l .narrow, length-take-le (c .numbers .lanes) (c .register) (omega (arith, l .narrow, r .wide)));
+          few-entered = omega (arith, l .few-entered, length-take-le (c .numbers .functions) (c .table) (omega (arith, l .few-entered, r .tabled)));
+          few-calls = omega (arith, l .few-calls, length-take-le (c .numbers .depth) (c .calls) (omega (arith, l .few-calls, kc)));
+          few-refs = omega (arith, l .few-refs, length-take-le (c .numbers .saved) (c .refs) (omega (arith, l .few-refs, kr)));
+          few-sent = omega (arith, l .few-sent, length-ring (c .channel) (c .numbers .first) (c .numbers .waiting));
           within = omega (arith, w .within, n);
-          saved = each-of (λ x. ltb x (length (codeOf s .kinds))) (λ x. x < length (givenOf s input (length (c .output)) .ops)) (λ x h. omega (arith, ltb-true x (length (codeOf s .kinds)) h, n)) (take (c .place .depth) (c .calls)) (e3 .1);
-          pointed = each-of (λ x. leb x 1_000_000_000) (λ x. x ≤ 1_000_000_000) (λ x h. leb-true x 1_000_000_000 h) (take (c .place .saved) (c .refs)) (e4 .1);
-          rising = rising (givenOf s input (length (c .output))) (codeOf s .kinds) rs 0 (take (c .place .functions) (c .table)) (e5 .1);
-          marked = marked (givenOf s input (length (c .output))) (codeOf s .kinds) rs 0 (take (c .place .functions) (c .table)) (e5 .1);
+          saved = each-of (λ x. ltb x (length (codeOf s .rows))) (λ x. x < length (givenOf s input (length (c .output)) .ops)) (λ x h. omega (arith, ltb-true x (length (codeOf s .rows)) h, n)) (take (c .numbers .depth) (c .calls)) (e3 .1);
+          pointed = each-of (λ x. leb x 1_000_000_000) (λ x. x ≤ 1_000_000_000) (λ x h. leb-true x 1_000_000_000 h) (take (c .numbers .saved) (c .refs)) (e4 .1);
+          rising = rising (givenOf s input (length (c .output))) (codeOf s .rows) rs 0 (take (c .numbers .functions) (c .table)) (e5 .1);
+          marked = marked (givenOf s input (length (c .output))) (codeOf s .rows) rs 0 (take (c .numbers .functions) (c .table)) (e5 .1);
           read = w .read;
-          fits = omega (arith, w .written, length-take-le (c .place .written) (c .output) (w .written));
+          fits = omega (arith, w .written, length-take-le (c .numbers .written) (c .output) (w .written));
         };
       }
 
   -- and one that fits it passes
-  pub fits-formed : Fits s input c → isFormed (codeOf s .kinds) (length input) c ≡ true
+  pub fits-formed : Fits s input c → isFormed (codeOf s .rows) (length input) c ≡ true
   unfolding isFormed callsBelow refsWithin tableNames givenOf
   fits-formed h =
       let k = h .counted in let f = h .formed in
@@ -218,18 +218,18 @@ module _ (s input : List ℕ) (c : Held) (kc : length (c .calls) ≡ 256) (kr : 
       let n = rs .many in
       both (both (both (both (both
       (has-room (c .register) (c .table) (c .channel) (record { wide = k .wide; tabled = k .tabled; ringed = k .ringed }))
-      (in-limits (c .place)
+      (in-limits (c .numbers)
       (record {
         near = f .near;
         short = f .short;
-        narrow = omega (arith, f .narrow, length-take-le (c .place .lanes) (c .register) (k .lanes));
-        few-entered = omega (arith, f .few-entered, length-take-le (c .place .functions) (c .table) (k .functions));
+        narrow = omega (arith, f .narrow, length-take-le (c .numbers .lanes) (c .register) (k .lanes));
+        few-entered = omega (arith, f .few-entered, length-take-le (c .numbers .functions) (c .table) (k .functions));
         few-calls = k .depth;
         few-refs = k .saved;
         few-sent = k .waiting;
         first = k .first;
       })))
-      (in-place (c .place) (length (codeOf s .kinds)) (length input) (length (c .output)) (record { within = omega (arith, f .within, n); read = f .read; written = k .written })))
-      (of-each (λ x. ltb x (length (codeOf s .kinds))) (λ x. x < length (givenOf s input (length (c .output)) .ops)) (λ x h. lt-ltb x (length (codeOf s .kinds)) (omega (arith, h, n))) (take (c .place .depth) (c .calls)) (f .saved)))
-      (of-each (λ x. leb x 1_000_000_000) (λ x. x ≤ 1_000_000_000) (λ x h. le-leb x 1_000_000_000 h) (take (c .place .saved) (c .refs)) (f .pointed)))
-      (names (givenOf s input (length (c .output))) (codeOf s .kinds) rs 0 (take (c .place .functions) (c .table)) (every (take (c .place .functions) (c .table))) (f .rising) (f .marked))
+      (in-place (c .numbers) (length (codeOf s .rows)) (length input) (length (c .output)) (record { within = omega (arith, f .within, n); read = f .read; written = k .written })))
+      (of-each (λ x. ltb x (length (codeOf s .rows))) (λ x. x < length (givenOf s input (length (c .output)) .ops)) (λ x h. lt-ltb x (length (codeOf s .rows)) (omega (arith, h, n))) (take (c .numbers .depth) (c .calls)) (f .saved)))
+      (of-each (λ x. leb x 1_000_000_000) (λ x. x ≤ 1_000_000_000) (λ x h. le-leb x 1_000_000_000 h) (take (c .numbers .saved) (c .refs)) (f .pointed)))
+      (names (givenOf s input (length (c .output))) (codeOf s .rows) rs 0 (take (c .numbers .functions) (c .table)) (every (take (c .numbers .functions) (c .table))) (f .rising) (f .marked))

@@ -4,21 +4,23 @@ use mathlib.Core.List.{List, [], _∷_}
 use Prim.Native.Nat.{ℕ, _+_}
 use lib.ListN.{length, getD, take}
 use lib.Dec.{leb, ltb, eqb}
-use Rattle.hops.specs.declared.place.Place.{Place}
+use Rattle.basics.specs.Limits.{mostMarks, lanes, depth, farthest, longest}
+use Rattle.kind_table.specs.Rows as row
+use Rattle.machine_numbers.specs.declared.numbers.Numbers.{Numbers}
 use Rattle.machine_step.specs.Held.{Held}
 
 -- "Lent room for register, table or channel below its limit is 37 too, also fresh"
 unfoldable pub hasRoom : List ℕ → List ℕ → List ℕ → Bool
-hasRoom g ts ch = leb 1024 (length g) && leb 256 (length ts) && leb 256 (length ch)
+hasRoom g ts ch = leb lanes (length g) && leb mostMarks (length ts) && leb depth (length ch)
 
--- "its limits hold"; the ring's first place is one of its 256
-unfoldable pub inLimits : Place → Bool
+-- "its limits hold"; the ring's first place is one of its places
+unfoldable pub inLimits : Numbers → Bool
 inLimits p =
-    leb (p .pointer) 1_000_000_000 && leb (p .length) 2_000_000_000 && leb (p .lanes) 1024 && leb (p .functions) 256
-    && leb (p .depth) 256 && leb (p .saved) 256 && leb (p .waiting) 256 && ltb (p .first) 256
+    leb (p .pointer) farthest && leb (p .length) longest && leb (p .lanes) lanes && leb (p .functions) mostMarks
+    && leb (p .depth) depth && leb (p .saved) depth && leb (p .waiting) depth && ltb (p .first) depth
 
 -- "position is at most the op count", "input place and output count fit their slices"
-unfoldable pub inPlace : Place → ℕ → ℕ → ℕ → Bool
+unfoldable pub inPlace : Numbers → ℕ → ℕ → ℕ → Bool
 inPlace p ops inputs outputs = leb (p .position) ops && leb (p .taken) inputs && leb (p .written) outputs
 
 -- every number of the list passes the test
@@ -34,21 +36,21 @@ callsBelow cs n ops = allOf (λ c. ltb c ops) (take n cs)
 -- "saved pointers within limit"
 unfoldable pub refsWithin : List ℕ → ℕ → Bool
 unfolding allOf
-refsWithin rs n = allOf (λ r. leb r 1_000_000_000) (take n rs)
+refsWithin rs n = allOf (λ r. leb r farthest) (take n rs)
 
 -- the places name Function marks, of the rows ks, and each is at least b, the first, and above the one before it
 unfoldable pub namesFrom : List ℕ → ℕ → List ℕ → Bool
 namesFrom ks b [] = true
-namesFrom ks b (t ∷ ts) = leb b t && eqb (getD ks t 0) 2 && namesFrom ks (t + 1) ts
+namesFrom ks b (t ∷ ts) = leb b t && eqb (getD ks t 0) row.function && namesFrom ks (t + 1) ts
 
 -- "the function table rises strictly and names Function marks"
 unfoldable pub tableNames : List ℕ → ℕ → List ℕ → Bool
 unfolding namesFrom
 tableNames ts n ks = namesFrom ks 0 (take n ts)
 
--- a well-formed state of a patch whose kinds have the rows ks, with so many input values
+-- a well-formed state of a patch whose ops have the rows ks, with so many input values
 unfoldable pub isFormed : List ℕ → ℕ → Held → Bool
 isFormed ks inputs c =
-    hasRoom (c .register) (c .table) (c .channel) && inLimits (c .place) && inPlace (c .place) (length ks) inputs (length (c .output))
-    && callsBelow (c .calls) (c .place .depth) (length ks) && refsWithin (c .refs) (c .place .saved)
-    && tableNames (c .table) (c .place .functions) ks
+    hasRoom (c .register) (c .table) (c .channel) && inLimits (c .numbers) && inPlace (c .numbers) (length ks) inputs (length (c .output))
+    && callsBelow (c .calls) (c .numbers .depth) (length ks) && refsWithin (c .refs) (c .numbers .saved)
+    && tableNames (c .table) (c .numbers .functions) ks

@@ -2,56 +2,57 @@
 ghost use mathlib.Core.Path.{_≡_};
 ghost use Prim.Native.Nat.{ℕ, _+_, _≤_, _<_};
 ghost use lib.ListN.{length};
+ghost use Rattle.basics.specs.Limits.{mostOps, depth};
 ghost use Rattle.machine_step.specs.Held.{held};
 ghost use Rattle.states.specs.Formed.{hasRoom, inLimits, inPlace, callsBelow, refsWithin, tableNames, isFormed};
-use hops::place::Place;
-use hops::wide::wide;
-use ops::limits::LANES;
-use ops::limits::MARKS;
-
-// The limit of the channel, the last accepted.
-pub const CHANNEL: usize = 256;
+use basics::wide::wide_int;
+use basics::wide::wide_short;
+use kind_table::row;
+use machine_numbers::numbers::Numbers;
+use ops::records::Record;
+use patch_reader::reader::Read;
+use testing_device::device::Poked;
 
 pub fn has_room(register: &[u64], table: &[u16], channel: &[u64]) -> bool
     ensures { λ r. ⌜ r ≡ hasRoom (now (register .entry)) (now (table .entry)) (now (channel .entry)) ⌝ }
 {
-    if register.len() < LANES {
+    if register.len() < Record::LANES {
         return false;
     }
-    if table.len() < MARKS {
+    if table.len() < Read::MARKS {
         return false;
     }
-    CHANNEL <= channel.len()
+    Poked::CHANNEL <= channel.len()
 }
 
-fn in_limits(h: Place) -> bool
+fn in_limits(h: Numbers) -> bool
     ensures { λ r. ⌜ r ≡ inLimits h ⌝ }
 {
-    if Place::POINTER < h.pointer {
+    if Numbers::POINTER < h.pointer {
         return false;
     }
-    if Place::LENGTH < h.length {
+    if Numbers::LENGTH < h.length {
         return false;
     }
-    if LANES < h.lanes {
+    if Record::LANES < h.lanes {
         return false;
     }
-    if MARKS < h.functions {
+    if Read::MARKS < h.functions {
         return false;
     }
-    if Place::CALLS < h.depth {
+    if Numbers::CALLS < h.depth {
         return false;
     }
-    if Place::REFS < h.saved {
+    if Numbers::REFS < h.saved {
         return false;
     }
-    if CHANNEL < h.waiting {
+    if Poked::CHANNEL < h.waiting {
         return false;
     }
-    h.first < CHANNEL
+    h.first < Poked::CHANNEL
 }
 
-fn in_place(h: Place, ops: usize, inputs: usize, outputs: usize) -> bool
+fn in_place(h: Numbers, ops: usize, inputs: usize, outputs: usize) -> bool
     ensures { λ r. ⌜ r ≡ inPlace h ops inputs outputs ⌝ }
 {
     if ops < h.position {
@@ -64,13 +65,13 @@ fn in_place(h: Place, ops: usize, inputs: usize, outputs: usize) -> bool
 }
 
 // The first n saved calls are below the op count.
-fn calls_below(calls: &[u16; 256], n: usize, ops: usize) -> bool
-    requires { ⌜ (n ≤ 256) × (length (now calls) ≡ 256) ⌝ }
+fn calls_below(calls: &[u16; Numbers::CALLS], n: usize, ops: usize) -> bool
+    requires { ⌜ (n ≤ depth) × (length (now calls) ≡ depth) ⌝ }
     ensures { λ r. ⌜ r ≡ callsBelow (now (calls .entry)) n ops ⌝ }
 {
     let mut i: usize = 0;
     while i < n {
-        if ops <= wide(calls[i]) {
+        if ops <= wide_short(calls[i]) {
             return false;
         }
         i += 1;
@@ -79,13 +80,13 @@ fn calls_below(calls: &[u16; 256], n: usize, ops: usize) -> bool
 }
 
 // The first n saved pointers are within their limit.
-fn refs_within(refs: &[u32; 256], n: usize) -> bool
-    requires { ⌜ (n ≤ 256) × (length (now refs) ≡ 256) ⌝ }
+fn refs_within(refs: &[u32; Numbers::REFS], n: usize) -> bool
+    requires { ⌜ (n ≤ depth) × (length (now refs) ≡ depth) ⌝ }
     ensures { λ r. ⌜ r ≡ refsWithin (now (refs .entry)) n ⌝ }
 {
     let mut i: usize = 0;
     while i < n {
-        if 1000000000 < refs[i] {
+        if Numbers::POINTER < wide_int(refs[i]) {
             return false;
         }
         i += 1;
@@ -94,21 +95,21 @@ fn refs_within(refs: &[u32; 256], n: usize) -> bool
 }
 
 // The first n places of the table rise, and each is one of a Function mark.
-fn table_names(table: &[u16], n: usize, kinds: &[u8]) -> bool
-    requires { ⌜ (n ≤ length (now table)) × (length (now kinds) ≤ 4096) ⌝ }
-    ensures { λ r. ⌜ r ≡ tableNames (now (table .entry)) n (now (kinds .entry)) ⌝ }
+fn table_names(table: &[u16], n: usize, rows: &[u8]) -> bool
+    requires { ⌜ (n ≤ length (now table)) × (length (now rows) ≤ mostOps) ⌝ }
+    ensures { λ r. ⌜ r ≡ tableNames (now (table .entry)) n (now (rows .entry)) ⌝ }
 {
     let mut i: usize = 0;
     let mut least: usize = 0;
     while i < n {
-        let t = wide(table[i]);
+        let t = wide_short(table[i]);
         if t < least {
             return false;
         }
-        if kinds.len() <= t {
+        if rows.len() <= t {
             return false;
         }
-        if kinds[t] != 2 {
+        if rows[t] != row::FUNCTION {
             return false;
         }
         least = t + 1;
@@ -117,12 +118,12 @@ fn table_names(table: &[u16], n: usize, kinds: &[u8]) -> bool
     true
 }
 
-// A well-formed state of the patch whose ops have these kinds.
+// A well-formed state of the patch whose ops have these rows.
 pub fn is_formed(
-    h: Place,
-    calls: &[u16; 256],
-    refs: &[u32; 256],
-    kinds: &[u8],
+    h: Numbers,
+    calls: &[u16; Numbers::CALLS],
+    refs: &[u32; Numbers::REFS],
+    rows: &[u8],
     register: &[u64],
     tape: &[u64],
     table: &[u16],
@@ -130,8 +131,8 @@ pub fn is_formed(
     output: &[u64],
     inputs: usize,
 ) -> bool
-    requires { ⌜ (length (now calls) ≡ 256) × (length (now refs) ≡ 256) × (length (now kinds) ≤ 4096) ⌝ }
-    ensures { λ r. ⌜ r ≡ isFormed (now (kinds .entry)) inputs (held h (now (calls .entry)) (now (refs .entry)) (now (register .entry)) (now (tape .entry)) (now (table .entry)) (now (channel .entry)) (now (output .entry))) ⌝ }
+    requires { ⌜ (length (now calls) ≡ depth) × (length (now refs) ≡ depth) × (length (now rows) ≤ mostOps) ⌝ }
+    ensures { λ r. ⌜ r ≡ isFormed (now (rows .entry)) inputs (held h (now (calls .entry)) (now (refs .entry)) (now (register .entry)) (now (tape .entry)) (now (table .entry)) (now (channel .entry)) (now (output .entry))) ⌝ }
 {
     if !has_room(register, table, channel) {
         return false;
@@ -139,14 +140,14 @@ pub fn is_formed(
     if !in_limits(h) {
         return false;
     }
-    if !in_place(h, kinds.len(), inputs, output.len()) {
+    if !in_place(h, rows.len(), inputs, output.len()) {
         return false;
     }
-    if !calls_below(calls, h.depth, kinds.len()) {
+    if !calls_below(calls, h.depth, rows.len()) {
         return false;
     }
     if !refs_within(refs, h.saved) {
         return false;
     }
-    table_names(table, h.functions, kinds)
+    table_names(table, h.functions, rows)
 }

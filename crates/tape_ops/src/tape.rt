@@ -1,12 +1,26 @@
 // The ops of the register as a whole, of the pointer and of the tape: Set, Store, Load, Move, Where, Deref, Refer, Alloc, Free, and comments.
 ghost use mathlib.Core.Path.{_≡_};
-ghost use Prim.Native.Nat.{ℕ, _+_, _-_, _*_, _^_, _≤_, _<_};
+ghost use Prim.Native.Nat.{_+_, _-_, _*_, _^_, _≤_, _<_};
 ghost use lib.ListN.{length};
-ghost use Rattle.hops.specs.Place.{ofLength, next, hop, laned, taped};
-ghost use Rattle.tape_ops.specs.Tape.{reach, setOf, loadOf, storeOf, moveOf, whereOf, derefOf, referOf, stocked, allocOf, tapeOf};
-use hops::place::Hop;
-use hops::place::Place;
-use hops::wide::wide32;
+ghost use Rattle.basics.specs.Limits.{mostOps, lanes, depth, farthest, longest};
+ghost use Rattle.machine_numbers.specs.Asks.{InReach, PayloadIn};
+ghost use Rattle.machine_numbers.specs.Numbers.{ofLength, next, answered, oneList, taped};
+ghost use Rattle.tape_ops.specs.Tape.{firstBlock, reach, setOf, loadOf, storeOf, moveOf, whereOf, derefOf, referOf, stocked, allocOf, tapeOf};
+use basics::wide::wide_int;
+use kind_table::row;
+use machine_numbers::cells::had;
+use machine_numbers::numbers::Numbers;
+use machine_numbers::numbers::OpAnswer;
+use machine_numbers::numbers::SIGN;
+
+// The farthest pointer, as a cell holds it.
+const FARTHEST: u64 = Numbers::POINTER as u64;
+
+// The cells by which the counted length grows, once or more often.
+const GROWTH: usize = 100000;
+
+// The cells by which an Alloc first lengthens a tape that has fewer.
+const FIRST_BLOCK: usize = 30000;
 
 // How far below zero a two's complement number stands.
 fn size_of_negative(a: u64) -> usize
@@ -18,19 +32,19 @@ fn size_of_negative(a: u64) -> usize
 
 // The counted length, grown to reach beyond the place e.
 fn grow(l: usize, e: usize) -> usize
-    requires { ⌜ (l ≤ 2000000000) × (e ≤ 1100000000) ⌝ }
+    requires { ⌜ (l ≤ longest) × (e ≤ farthest + lanes) ⌝ }
     ensures { λ r. ⌜ r ≡ reach l e ⌝ }
 {
     if e < l {
         return l;
     }
-    l + 100000 * ((e - l) / 100000 + 1)
+    l + GROWTH * ((e - l) / GROWTH + 1)
 }
 
 // On to the next op, with the counted length grown to reach beyond n cells from the pointer on.
-fn reached(mut h: Place, n: usize) -> Hop
-    requires { ⌜ (h .pointer ≤ 1000000000) × (h .position < 4096) × (h .length ≤ 2000000000) × (n ≤ 1024) ⌝ }
-    ensures { λ r. ⌜ r ≡ hop 0 (next (ofLength h (reach (h .length) (h .pointer + n)))) ⌝ }
+fn reached(mut h: Numbers, n: usize) -> OpAnswer
+    requires { ⌜ InReach h × (n ≤ lanes) ⌝ }
+    ensures { λ r. ⌜ r ≡ answered 0 (next (ofLength h (reach (h .length) (h .pointer + n)))) ⌝ }
 {
     let at = h.pointer;
     let l = h.length;
@@ -40,34 +54,34 @@ fn reached(mut h: Place, n: usize) -> Hop
 
 // The counted length that an Alloc begins with.
 fn stock(l: usize) -> usize
-    requires { ⌜ l ≤ 2000000000 ⌝ }
-    ensures { λ r. ⌜ (r ≡ stocked l) × (r ≤ 2000030000) × (30000 ≤ r) ⌝ }
+    requires { ⌜ l ≤ longest ⌝ }
+    ensures { λ r. ⌜ (r ≡ stocked l) × (r ≤ longest + firstBlock) × (firstBlock ≤ r) ⌝ }
 {
-    if l < 30000 {
-        return l + 30000;
+    if l < FIRST_BLOCK {
+        return l + FIRST_BLOCK;
     }
     l
 }
 
-fn set(mut h: Place, n: usize, a: usize, register: &mut [u64], bytes: &[u8]) -> Hop
-    requires { ⌜ (h .position < 4096) × (n ≤ 1024) × (1024 ≤ length (now register)) × (a + 8 * n ≤ length (now bytes)) ⌝ }
-    ensures { λ r. ⌜ laned r (now (register .exit)) ≡ setOf n a h (now (register .entry)) (now (bytes .entry)) ⌝ }
+fn set(mut h: Numbers, n: usize, a: usize, register: &mut [u64], bytes: &[u8]) -> OpAnswer
+    requires { ⌜ (h .position < mostOps) × (n ≤ lanes) × (lanes ≤ length (now register)) × (a + 8 * n ≤ length (now bytes)) ⌝ }
+    ensures { λ r. ⌜ oneList r (now (register .exit)) ≡ setOf n a h (now (register .entry)) (now (bytes .entry)) ⌝ }
 {
     byte_fields::read::read_values(register, bytes, a, n);
     h.lanes = n;
     h.next()
 }
 
-fn load(mut h: Place, n: usize, register: &mut [u64], tape: &[u64]) -> Hop
-    requires { ⌜ (h .pointer ≤ 1000000000) × (h .position < 4096) × (h .length ≤ 2000000000) × (n ≤ 1024) × (1024 ≤ length (now register)) ⌝ }
-    ensures { λ r. ⌜ laned r (now (register .exit)) ≡ loadOf n h (now (register .entry)) (now (tape .entry)) ⌝ }
+fn load(mut h: Numbers, n: usize, register: &mut [u64], tape: &[u64]) -> OpAnswer
+    requires { ⌜ InReach h × (n ≤ lanes) × (lanes ≤ length (now register)) ⌝ }
+    ensures { λ r. ⌜ oneList r (now (register .exit)) ≡ loadOf n h (now (register .entry)) (now (tape .entry)) ⌝ }
 {
     let at = h.pointer;
     if n == 0 {
         h.lanes = n;
         return reached(h, n);
     }
-    if tape.len() < at + n {
+    if had(tape.len(), at) < n {
         return h.refuse(23);
     }
     lane_loops::loops::copy_lanes(register, &tape[at..], n);
@@ -75,15 +89,15 @@ fn load(mut h: Place, n: usize, register: &mut [u64], tape: &[u64]) -> Hop
     reached(h, n)
 }
 
-fn store(h: Place, n: usize, register: &[u64], tape: &mut [u64]) -> Hop
-    requires { ⌜ (h .pointer ≤ 1000000000) × (h .position < 4096) × (h .length ≤ 2000000000) × (n ≤ 1024) × (1024 ≤ length (now register)) ⌝ }
-    ensures { λ r. ⌜ laned r (now (tape .exit)) ≡ storeOf n h (now (register .entry)) (now (tape .entry)) ⌝ }
+fn store(h: Numbers, n: usize, register: &[u64], tape: &mut [u64]) -> OpAnswer
+    requires { ⌜ InReach h × (n ≤ lanes) × (lanes ≤ length (now register)) ⌝ }
+    ensures { λ r. ⌜ oneList r (now (tape .exit)) ≡ storeOf n h (now (register .entry)) (now (tape .entry)) ⌝ }
 {
     let at = h.pointer;
     if n == 0 {
         return reached(h, n);
     }
-    if tape.len() < at + n {
+    if had(tape.len(), at) < n {
         return h.refuse(23);
     }
     lane_loops::loops::copy_lanes(&mut tape[at..], register, n);
@@ -91,14 +105,14 @@ fn store(h: Place, n: usize, register: &[u64], tape: &mut [u64]) -> Hop
 }
 
 // Move: by the signed amount that the pattern a has.
-fn shift(mut h: Place, a: u64) -> Hop
-    requires { ⌜ (h .pointer ≤ 1000000000) × (h .position < 4096) ⌝ }
+fn move_op(mut h: Numbers, a: u64) -> OpAnswer
+    requires { ⌜ (h .pointer ≤ farthest) × (h .position < mostOps) ⌝ }
     ensures { λ r. ⌜ r ≡ moveOf a h ⌝ }
 {
     let at = h.pointer;
-    if a < 0x8000000000000000 {
+    if a < SIGN {
         let to = at + (a as usize);
-        if to <= 1000000000 {
+        if to <= Numbers::POINTER {
             h.pointer = to;
             return h.next();
         }
@@ -112,33 +126,33 @@ fn shift(mut h: Place, a: u64) -> Hop
     h.refuse(24)
 }
 
-fn where_op(h: Place, register: &mut [u64]) -> Hop
-    requires { ⌜ (h .position < 4096) × (1024 ≤ length (now register)) ⌝ }
-    ensures { λ r. ⌜ laned r (now (register .exit)) ≡ whereOf h (now (register .entry)) ⌝ }
+fn where_op(h: Numbers, register: &mut [u64]) -> OpAnswer
+    requires { ⌜ (h .position < mostOps) × (lanes ≤ length (now register)) ⌝ }
+    ensures { λ r. ⌜ oneList r (now (register .exit)) ≡ whereOf h (now (register .entry)) ⌝ }
 {
     let at = h.pointer;
     register[0] = at as u64;
     h.next()
 }
 
-fn deref(mut h: Place, refs: &mut [u32; 256], tape: &[u64]) -> Hop
-    requires { ⌜ (h .pointer ≤ 1000000000) × (h .position < 4096) × (h .length ≤ 2000000000) × (length (now refs) ≡ 256) ⌝ }
-    ensures { λ r. ⌜ laned r (now (refs .exit)) ≡ derefOf h (now (refs .entry)) (now (tape .entry)) ⌝ }
+fn deref(mut h: Numbers, refs: &mut [u32; Numbers::REFS], tape: &[u64]) -> OpAnswer
+    requires { ⌜ InReach h × (length (now refs) ≡ depth) ⌝ }
+    ensures { λ r. ⌜ oneList r (now (refs .exit)) ≡ derefOf h (now (refs .entry)) (now (tape .entry)) ⌝ }
 {
     let at = h.pointer;
     let l = h.length;
     let s = h.saved;
-    if 256 <= s {
+    if Numbers::REFS <= s {
         return h.refuse(32);
     }
     if tape.len() <= at {
         return h.refuse(23);
     }
     let v = tape[at];
-    if 0x8000000000000000 <= v {
+    if SIGN <= v {
         return h.refuse(26);
     }
-    if 1000000000 < v {
+    if FARTHEST < v {
         return h.refuse(25);
     }
     refs[s] = at as u32;
@@ -148,8 +162,8 @@ fn deref(mut h: Place, refs: &mut [u32; 256], tape: &[u64]) -> Hop
     h.next()
 }
 
-fn refer(mut h: Place, refs: &[u32; 256]) -> Hop
-    requires { ⌜ (h .position < 4096) × (h .saved ≤ 256) × (length (now refs) ≡ 256) ⌝ }
+fn refer(mut h: Numbers, refs: &[u32; Numbers::REFS]) -> OpAnswer
+    requires { ⌜ (h .position < mostOps) × (h .saved ≤ depth) × (length (now refs) ≡ depth) ⌝ }
     ensures { λ r. ⌜ r ≡ referOf h (now (refs .entry)) ⌝ }
 {
     let s = h.saved;
@@ -157,24 +171,24 @@ fn refer(mut h: Place, refs: &[u32; 256]) -> Hop
         return h.refuse(27);
     }
     let e = s - 1;
-    let p = wide32(refs[e]);
+    let p = wide_int(refs[e]);
     h.saved = e;
     h.pointer = p;
     h.next()
 }
 
-fn alloc(mut h: Place, register: &mut [u64]) -> Hop
-    requires { ⌜ (h .position < 4096) × (h .length ≤ 2000000000) × (1024 ≤ length (now register)) ⌝ }
-    ensures { λ r. ⌜ laned r (now (register .exit)) ≡ allocOf h (now (register .entry)) ⌝ }
+fn alloc(mut h: Numbers, register: &mut [u64]) -> OpAnswer
+    requires { ⌜ (h .position < mostOps) × (h .length ≤ longest) × (lanes ≤ length (now register)) ⌝ }
+    ensures { λ r. ⌜ oneList r (now (register .exit)) ≡ allocOf h (now (register .entry)) ⌝ }
 {
     let l = h.length;
     let v = register[0];
-    if 0x8000000000000000 <= v {
+    if SIGN <= v {
         return h.refuse(30);
     }
     let g = stock(l);
     let to = g + (v as usize);
-    if 2000000000 < to {
+    if Numbers::LENGTH < to {
         return h.refuse(30);
     }
     register[0] = (g - 1) as u64;
@@ -184,31 +198,31 @@ fn alloc(mut h: Place, register: &mut [u64]) -> Hop
 
 // The op of row k, with n lanes or values and its payload at byte a.
 pub fn tape(
-    h: Place,
+    h: Numbers,
     k: u8,
     n: usize,
     a: usize,
-    refs: &mut [u32; 256],
+    refs: &mut [u32; Numbers::REFS],
     register: &mut [u64],
     tape: &mut [u64],
     bytes: &[u8],
-) -> Hop
-    requires { ⌜ (h .pointer ≤ 1000000000) × (h .position < 4096) × (h .length ≤ 2000000000) × (h .saved ≤ 256) × (n ≤ 1024) × (1024 ≤ length (now register)) × (length (now refs) ≡ 256) × (k ≡ 1 → a + 8 * n ≤ length (now bytes)) × (k ≡ 40 → a + 8 * n ≤ length (now bytes)) × (k ≡ 11 → a + 8 ≤ length (now bytes)) ⌝ }
+) -> OpAnswer
+    requires { ⌜ InReach h × (lanes ≤ length (now register)) × (length (now refs) ≡ depth) × PayloadIn k n a (now bytes) ⌝ }
     ensures { λ r. ⌜ taped r (now (refs .exit)) (now (register .exit)) (now (tape .exit)) ≡ tapeOf k n a h (now (refs .entry)) (now (register .entry)) (now (tape .entry)) (now (bytes .entry)) ⌝ }
 {
     match k {
-        1 => set(h, n, a, register, bytes),
-        9 => store(h, n, register, tape),
-        10 => load(h, n, register, tape),
-        11 => {
+        row::SET => set(h, n, a, register, bytes),
+        row::STORE => store(h, n, register, tape),
+        row::LOAD => load(h, n, register, tape),
+        row::MOVE => {
             let by = byte_fields::read::u64_at(bytes, a);
-            shift(h, by)
+            move_op(h, by)
         }
-        12 => where_op(h, register),
-        13 => deref(h, refs, tape),
-        14 => refer(h, refs),
-        40 => set(h, n, a, register, bytes),
-        41 => alloc(h, register),
+        row::WHERE => where_op(h, register),
+        row::DEREF => deref(h, refs, tape),
+        row::REFER => refer(h, refs),
+        row::STANDARD_SET => set(h, n, a, register, bytes),
+        row::ALLOC => alloc(h, register),
         _ => h.next(),
     }
 }

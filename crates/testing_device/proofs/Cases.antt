@@ -1,8 +1,8 @@
--- Computed cases of the device beyond the one list (one_table): what Get takes, the least integer printed, what Put writes, and the refusals of
--- the channel. Assumes nothing.
+-- Computed cases of the device beyond the one list (demands): what Get takes, the least integer printed, what Put writes, the refusals of
+-- the channel, and their numbers and places. Assumes nothing.
 use mathlib.Core.Path.{_≡_, refl}
-use mathlib.Core.List.{List, [], _∷_}
-use Prim.Native.Nat.{_^_}
+use mathlib.Core.List.{List, [], _∷_, _++_, map}
+use Prim.Native.Nat.{ℕ, _^_}
 use lib.ListN.{replicate}
 use lib.ListN
 use Rattle.ops.specs.declared.op.Mode.the-variants.{Char, Int, Other}
@@ -12,9 +12,10 @@ use Rattle.testing_device.specs.declared.device.Put.the-variants.{Writte
 use Rattle.testing_device.specs.declared.device.Peeked.{Peeked}
 use Rattle.testing_device.specs.declared.device.Peeked.the-variants as peeked
 use Rattle.testing_device.specs.declared.device.Poked.the-variants as poked
+use Rattle.testing_device.specs.Answers.{gotNumber, gotPlace, putNumber, putPlace, peekedNumber, peekedPlace, pokedNumber, pokedPlace}
 use Rattle.testing_device.specs.Device.{leading, decimalFrom, intFrom, getOf, decimal, written, putOf, ring}
 use Rattle.testing_device.specs.Room.{Left, left, placed, putIn}
-use Rattle.testing_device.specs.Channel.{Held, held, peekOf, pokeIn}
+use Rattle.testing_device.specs.Channel.{PokeLeft, pokeLeft, peekOf, pokeIn}
 
 -- a char whole, and none; 11 is no space; no digit gives 0 with the spaces taken; 2 ^ 64 + 4 wraps
 unfoldable pub gets : List Got
@@ -57,9 +58,25 @@ pub peeked-all : peeks ≡ peeked.Value 3 0 1 ∷ peeked.Empty ∷ peeked.NotARi
 unfolding peeks peekOf ring
 peeked-all = refl
 
-unfoldable pub pokes : List Held
+unfoldable pub pokes : List PokeLeft
 pokes = pokeIn 9 (replicate 256 3) 255 2 ∷ pokeIn 9 (replicate 256 3) 7 256 ∷ []
 
-pub poked-all : pokes ≡ held (poked.Sent 3) (lib.ListN.set (replicate 256 3) 1 9) ∷ held poked.Full (replicate 256 3) ∷ []
+pub poked-all : pokes ≡ pokeLeft (poked.Sent 3) (lib.ListN.set (replicate 256 3) 1 9) ∷ pokeLeft poked.Full (replicate 256 3) ∷ []
 unfolding pokes pokeIn
 poked-all = refl
+
+-- 01's number and place for each of them, where op 4 is run
+unfoldable pub told : List (ℕ × ℕ)
+told =
+    map (λ r. (gotNumber r, gotPlace r 4)) gets
+    ++ map (λ l. (putNumber (l .answer), putPlace (l .answer) 4)) puts
+    ++ map (λ r. (peekedNumber r, peekedPlace r 4)) peeks
+    ++ map (λ l. (pokedNumber (l .answer), pokedPlace (l .answer) 4)) pokes
+
+pub told-all : told
+    ≡ (0, 5) ∷ (35, 4) ∷ (0, 5) ∷ (0, 5) ∷ (0, 5) ∷ (0, 5) ∷ (0, 5)
+    ∷ (0, 5) ∷ (36, 4) ∷ (0, 5) ∷ (0, 5)
+    ∷ (0, 5) ∷ (33, 4) ∷ (37, 0) ∷ (37, 0) ∷ (37, 0)
+    ∷ (0, 5) ∷ (34, 4) ∷ []
+unfolding told
+told-all = rw (got, put, peeked-all, poked-all) refl

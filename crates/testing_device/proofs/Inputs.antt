@@ -10,12 +10,13 @@ use lib.Dec.{leb}
 use lib.ListN.{length, getD, take, drop, drop-of-length-le, length-drop}
 use lib.Seq.{drop-cons, drop-drop}
 use borrow.Author.Tests.{leb-true}
+use Rattle.basics.proofs.Tests.{byCase, and-left}
 use Rattle.ops.specs.declared.op.Mode.{Mode}
 use Rattle.ops.specs.declared.op.Mode.the-variants.{Char, Int, Other}
 use Rattle.testing_device.specs.declared.device.Got.{Got}
 use Rattle.testing_device.specs.declared.device.Got.the-variants.{Value, Empty}
 use Rattle.testing_device.specs.Device.{isSpace, isDigit, leading, decimalFrom, intFrom, charFrom, getOf}
-use Rattle.testing_device.proofs.Words.{Words, words-drop, and-left, byCase}
+use Rattle.testing_device.proofs.Words.{Words, words-drop}
 
 module _ (p : ℕ → Bool) (l : List ℕ) (i : ℕ) where
   -- none beyond the end, none where the value there has not the property, one more where it has

@@ -7,11 +7,12 @@ use lib.Dec.{ltb}
 use lib.ListN.{length, set, drop, length-set}
 use lib.Seq.{drop-cons, drop-set-lt, getD-set-same, append-snoc, paste, take-length}
 use borrow.Author.Tests.{lt-ltb, le-ltb, ltb-true}
+use Rattle.basics.proofs.Tests.{byCase}
 use Rattle.ops.specs.declared.op.Mode.{Mode}
 use Rattle.ops.specs.declared.op.Mode.the-variants.{Char, Int, Other}
 use Rattle.testing_device.specs.Device.{decimal, written, putOf}
 use Rattle.testing_device.specs.Room.{placed}
-use Rattle.testing_device.proofs.Words.{Words, no-words, words-cons, words-append, byCase}
+use Rattle.testing_device.proofs.Words.{Words, no-words, words-cons, words-append}
 
 -- ---- digits
 

@@ -10,10 +10,10 @@ use lib.Dec.{leb, ltb}
 use lib.ListN.{length, getD, set, length-append, length-set}
 use lib.Seq.{getD-set-same, getD-set-other, set-getD}
 use borrow.Author.Tests.{leb-true, ltb-true}
+use Rattle.basics.proofs.Tests.{and-left, and-right}
 use Rattle.testing_device.specs.Device.{ring, fillRing}
 use Rattle.testing_device.specs.Channel.{isRing, peekOf}
 use Rattle.testing_device.specs.declared.device.Peeked.the-variants.{Value, Empty}
-use Rattle.testing_device.proofs.Words.{Words, no-words, words-cons, words-append, and-left, and-right}
 
 pub length-ring : (l : List ℕ) (f n : ℕ) → length (ring l f n) ≡ n
 unfolding ring
@@ -91,12 +91,6 @@ ring-fill (v ∷ vs) l f h b =
     ∙ ap₂ (λ (a : ℕ) (z : List ℕ). a ∷ z)
     (fill-other vs (set l (f % 256) v) (f + 1) (f % 256) (λ i k e. omega arith) ∙ getD-set-same l (f % 256) v 0 (omega arith))
     (ring-fill vs (set l (f % 256) v) (f + 1) (omega arith) (rw length-set b))
-
-pub ring-words : (l : List ℕ) (f n : ℕ) → Words l → Words (ring l f n)
-unfolding ring
-ring-words l f zero w = no-words
-ring-words l f (suc n) w =
-    words-append (ring l f n) (getD l ((f + n) % 256) 0 ∷ []) (ring-words l f n w) (words-cons _ [] (w .at ((f + n) % 256)) no-words)
 
 -- what the test of a ring says
 pub record Ringed (l : List ℕ) (f n : ℕ) : Type 0 where

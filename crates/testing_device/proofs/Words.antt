@@ -1,6 +1,4 @@
--- Lists whose values are below 2 ^ 64, and what tests say. Assumes nothing.
-use mathlib.Core.Path.{_≡_, refl}
-use mathlib.Core.Bool.{Bool, true, false, _&&_}
+-- Lists whose values are below 2 ^ 64. Assumes nothing.
 use mathlib.Core.List.{List, [], _∷_, _++_}
 use Prim.Native.Nat.{ℕ, zero, suc, _+_, _^_, _<_}
 use native.Mathlib.Omega.{arith}
@@ -30,18 +28,3 @@ words-append (x ∷ xs) ys w u = words-cons x (xs ++ ys) (w .at 0) (words-append
 
 pub words-drop : (n : ℕ) (l : List ℕ) → Words l → Words (drop n l)
 words-drop n l w = record { at = λ i. rw (getD-drop n l i 0) (w .at (n + i)) }
-
--- the two parts of a test that came out true
-pub and-left : (a b : Bool) → a && b ≡ true → a ≡ true
-and-left true b e = refl
-and-left false b e = e
-
-pub and-right : (a b : Bool) → a && b ≡ true → b ≡ true
-and-right true b e = e
-and-right false true e = refl
-and-right false false e = e
-
--- a test is true or false
-pub byCase : {P : Type 0} (t : Bool) → (t ≡ true → P) → (t ≡ false → P) → P
-byCase true f g = f refl
-byCase false f g = g refl

@@ -5,6 +5,7 @@ use mathlib.Core.List.{List, [], _∷_, _++_}
 use lib.Dec.{leb, ltb, eqb}
 use lib.ListN.{length, take, drop, getD}
 use lib.ListN
+use Rattle.basics.specs.Limits.{depth}
 use Rattle.ops.specs.declared.op.Mode.{Mode}
 use Rattle.ops.specs.declared.op.Mode.the-variants.{Char, Int, Other}
 use Rattle.testing_device.specs.declared.device.Got.{Got}
@@ -61,7 +62,7 @@ unfoldable pub written : ℕ → List ℕ
 unfolding decimal
 written v = cond (ltb v (2 ^ 63)) (decimal 20 v) (45 ∷ decimal 20 (2 ^ 64 - v))
 
--- the values that Put writes: "mode 3 puts nothing", "Put int writes decimal characters"
+-- the values that Put writes: "Mode 3 .. puts nothing", "Put int writes decimal characters"
 unfoldable pub putOf : Mode → ℕ → List ℕ
 unfolding written
 putOf Char v = v ∷ []
@@ -73,9 +74,9 @@ putOf Other v = []
 -- the n values of a ring from place f on
 unfoldable pub ring : List ℕ → ℕ → ℕ → List ℕ
 ring l f zero = []
-ring l f (suc n) = ring l f n ++ (getD l ((f + n) % 256) 0 ∷ [])
+ring l f (suc n) = ring l f n ++ (getD l ((f + n) % depth) 0 ∷ [])
 
 -- values written into a ring from place f on
 unfoldable pub fillRing : List ℕ → ℕ → List ℕ → List ℕ
 fillRing l f [] = l
-fillRing l f (v ∷ vs) = fillRing (lib.ListN.set l (f % 256) v) (f + 1) vs
+fillRing l f (v ∷ vs) = fillRing (lib.ListN.set l (f % depth) v) (f + 1) vs

@@ -15,7 +15,7 @@ pub record Left : Type 0 where
 abbrev pub left : Put → List ℕ → Left
 left a output = record { answer = a; output = output }
 
--- the values stand from the place `count` on; "lent entries outside the counts keep their values"
+-- the values stand from the place `count` on; "Lent entries outside the counts keep their values"
 unfoldable pub placed : List ℕ → List ℕ → ℕ → List ℕ
 placed values output count = take count output ++ values ++ drop (count + length values) output
 

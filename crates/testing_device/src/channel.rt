@@ -1,19 +1,19 @@
 // Peek and Poke: the oldest value taken from a ring of 256 places, and a value sent to its end.
 ghost use mathlib.Core.Path.{_≡_};
-ghost use Rattle.testing_device.specs.Channel.{isRing, held, peekOf, pokeIn};
+ghost use Rattle.testing_device.specs.Channel.{isRing, pokeLeft, peekOf, pokeIn};
 use crate::device::Peeked;
 use crate::device::Poked;
 
 fn is_ring(channel: &[u64], first: usize, waiting: usize) -> bool
     ensures { λ r. ⌜ r ≡ isRing (now (channel .entry)) first waiting ⌝ }
 {
-    if channel.len() < 256 {
+    if channel.len() < Poked::CHANNEL {
         return false;
     }
-    if 256 <= first {
+    if Poked::CHANNEL <= first {
         return false;
     }
-    waiting <= 256
+    waiting <= Poked::CHANNEL
 }
 
 pub fn peek(channel: &[u64], first: usize, waiting: usize) -> Peeked
@@ -25,20 +25,20 @@ pub fn peek(channel: &[u64], first: usize, waiting: usize) -> Peeked
     if waiting == 0 {
         return Peeked::Empty;
     }
-    let next = (first + 1) % 256;
+    let next = (first + 1) % Poked::CHANNEL;
     Peeked::Value(channel[first], next, waiting - 1)
 }
 
 pub fn poke(value: u64, channel: &mut [u64], first: usize, waiting: usize) -> Poked
-    ensures { λ r. ⌜ held r (now (channel .exit)) ≡ pokeIn value (now (channel .entry)) first waiting ⌝ }
+    ensures { λ r. ⌜ pokeLeft r (now (channel .exit)) ≡ pokeIn value (now (channel .entry)) first waiting ⌝ }
 {
     if !is_ring(channel, first, waiting) {
         return Poked::NotARing;
     }
-    if 256 <= waiting {
+    if Poked::CHANNEL <= waiting {
         return Poked::Full;
     }
-    let at = (first + waiting) % 256;
+    let at = (first + waiting) % Poked::CHANNEL;
     channel[at] = value;
     Poked::Sent(waiting + 1)
 }

@@ -23,3 +23,8 @@ pub enum Poked {
     Full,
     NotARing,
 }
+
+// The values that may wait in the channel, the last count accepted: it is a ring of so many places.
+impl Poked {
+    pub const CHANNEL: usize = 256;
+}

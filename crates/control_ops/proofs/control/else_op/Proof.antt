@@ -4,9 +4,6 @@ use borrow.Author.Needs.{needs}
 use Rattle.control_ops.proofs.control.else_op.Statement.{statement}
 use Rattle.control_ops.proofs.control.else_op.Tie as tie
 
-returns : tie.Need-returns
-unfolding elsesOf
-returns c = simp (c .jump .ensures, ← c .before .before .pre .0)
-
 pub else-op-spec : {M : Type 1} → statement M
-else-op-spec = tie.close (tie.spec (λ c κs. search needs) returns)
+unfolding elsesOf
+else-op-spec = tie.close (tie.spec (λ c κs. search needs) (λ c. simp (c .jump .ensures, ← c .before .before .pre .0)))

@@ -4,15 +4,8 @@ use borrow.Author.Needs.{needs}
 use Rattle.device_ops.proofs.device.get.Statement.{statement}
 use Rattle.device_ops.proofs.device.get.Tie as tie
 
-returns : tie.Need-returns
-unfolding gettingOf
-returns c = simp (c .before .before .v .given .1, ← (c .before .before .before .before .get .ensures), c .next .ensures)
-
-returns-2 : tie.Need-returns-2
-unfolding gettingOf
-returns-2 c = simp (c .before .enum-told .given .1, ← (c .before .before .before .get .ensures), c .refuse .ensures)
-
 pub get-spec : {M : Type 1} → statement M
+unfolding gettingOf
 get-spec =
     tie.close
     (tie.spec
@@ -23,5 +16,5 @@ get-spec =
     (λ c. search needs)
     (λ c κs. search needs)
     (λ c. search needs)
-    returns
-    returns-2)
+    (λ c. simp (c .before .before .v .given .1, ← (c .before .before .before .before .get .ensures), c .next .ensures))
+    (λ c. simp (c .before .enum-told .given .1, ← (c .before .before .before .get .ensures), c .refuse .ensures)))

@@ -4,19 +4,8 @@ use borrow.Author.Needs.{needs}
 use Rattle.device_ops.proofs.device.poke.Statement.{statement}
 use Rattle.device_ops.proofs.device.poke.Tie as tie
 
-returns : tie.Need-returns
-unfolding pokingOf
-returns c = simp (c .before .before .waiting .given .1, ← (c .before .before .before .before .before .before .poke .ensures), c .next .ensures)
-
-returns-2 : tie.Need-returns-2
-unfolding pokingOf
-returns-2 c = simp (c .before .enum-told .given .1, ← (c .before .before .before .before .before .poke .ensures), c .refuse .ensures)
-
-returns-3 : tie.Need-returns-3
-unfolding pokingOf
-returns-3 c = simp (c .before .enum-told2 .given .1, ← (c .before .before .before .before .before .poke .ensures), c .refuse2 .ensures)
-
 pub poke-spec : {M : Type 1} → statement M
+unfolding pokingOf
 poke-spec =
     tie.close
     (tie.spec
@@ -29,8 +18,8 @@ poke-spec =
     (λ c. search needs)
     (λ c κs. search needs)
     (λ c. search needs)
-    returns
+    (λ c. simp (c .before .before .waiting .given .1, ← (c .before .before .before .before .before .before .poke .ensures), c .next .ensures))
     (λ c. search needs)
-    returns-2
+    (λ c. simp (c .before .enum-told .given .1, ← (c .before .before .before .before .before .poke .ensures), c .refuse .ensures))
     (λ c. search needs)
-    returns-3)
+    (λ c. simp (c .before .enum-told2 .given .1, ← (c .before .before .before .before .before .poke .ensures), c .refuse2 .ensures)))

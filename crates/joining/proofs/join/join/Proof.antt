@@ -1,7 +1,7 @@
 -- `joining::join::join` meets its contract. Assumes nothing.
 use mathlib.Core.Path.{refl}
 use native.Mathlib.Omega.{arith}
-use Rattle.ops.specs.Patch.{kindIn, countIn, placeIn}
+use Rattle.ops.specs.Patch.{rowIn, countIn, payloadIn}
 use Rattle.file_laws.proofs.Loaded.{few}
 use Rattle.joining.proofs.Files.{all-below, array-long, bad-file, no-room, holds, entries-within, file-fits, all-joined}
 use borrow.Author.Needs.{needs}
@@ -10,37 +10,56 @@ use Rattle.joining.proofs.join.join.Tie as tie
 
 push-all-requires : tie.Need-push-all-requires
 push-all-requires c κs =
-    let f = few (c .before .before .before .before .before .before .before .before .before .before .before .before .before .before .args .bytes .now) _ (c .before .before .before .before .before .before .before .load .ensures .0) (c .before .before .before .before .before .before .if1 .left) in
-    (holds (c .before .before .before .before .before .before .before .before .before .before .before .before .before .before .args .bytes .now) _ (c .before .before .before .before .before .before .before .load .ensures .0) (c .before .before .before .before .before .before .if1 .left) _ _ _ _ _ _ (c .before .before .before .before .before .before .before .load .ensures .1 .0) (c .before .before .before .before .before .before .before .load .ensures .1 .1 .0) (c .before .before .before .before .before .before .before .load .ensures .1 .1 .1 .1), (f, f))
+    let read = c .before .before .before .before .before .before .before in
+    let s = read .before .before .before .before .before .before .before .args .bytes .now in
+    let l = read .load .ensures in
+    let f = few s _ (l .0) in
+    (holds s _ (l .0) _ _ _ _ _ _ (l .1 .0) (l .1 .1 .0) (l .1 .1 .1 .1), (f, f))
 
 write-all-requires : tie.Need-write-all-requires
 write-all-requires c κs =
-    let w = all-below (c .before .before .before .before .before .before .before .before .before .before .before .before .before .before .before .before .before .before .before .before .before .before .before .args .bytes .now) (c .before .before .before .before .before .before .before .before .before .before .before .before .before .before .before .before .before .before .before .before .before .before .shared-slice-known .given) in
-    let q = c .before .before .before .before .before .before .before .before .push-all .ensures .1 in
-    let l = c .before .before .before .before .before .before .before .before .push-all .ensures .0 in
-    let f = few (c .before .before .before .before .before .before .before .before .before .before .before .before .before .before .before .before .before .before .before .before .before .before .before .args .bytes .now) _ (c .before .before .before .before .before .before .before .before .before .before .before .before .before .before .before .before .load .ensures .0) (c .before .before .before .before .before .before .before .before .before .before .before .before .before .before .before .if1 .left) in
-    (w, (holds (c .before .before .before .before .before .before .before .before .before .before .before .before .before .before .before .before .before .before .before .before .before .before .before .args .bytes .now) _ (c .before .before .before .before .before .before .before .before .before .before .before .before .before .before .before .before .load .ensures .0) (c .before .before .before .before .before .before .before .before .before .before .before .before .before .before .before .if1 .left) _ _ _ _ _ _ (c .before .before .before .before .before .before .before .before .before .before .before .before .before .before .before .before .load .ensures .1 .0) (c .before .before .before .before .before .before .before .before .before .before .before .before .before .before .before .before .load .ensures .1 .1 .0) (c .before .before .before .before .before .before .before .before .before .before .before .before .before .before .before .before .load .ensures .1 .1 .1 .1), (entries-within (c .before .before .before .before .before .before .before .before .before .before .before .before .before .before .before .before .before .before .before .before .before .before .before .args .bytes .now) _ (c .before .before .before .before .before .before .before .before .before .before .before .before .before .before .before .before .load .ensures .0) (c .before .before .before .before .before .before .before .before .before .before .before .before .before .before .before .if1 .left) _ _ _ _ _ _ (c .before .before .before .before .before .before .before .before .before .before .before .before .before .before .before .before .load .ensures .1 .0) (c .before .before .before .before .before .before .before .before .before .before .before .before .before .before .before .before .load .ensures .1 .1 .0) (c .before .before .before .before .before .before .before .before .before .before .before .before .before .before .before .before .load .ensures .1 .1 .1 .1) (c .before .before .before .before .before .before .before .before .push-all .last .1 .1 .1 .1 .1 .0) (c .before .before .before .before .before .before .before .before .push-all .last .1 .1 .1 .1 .1 .1 .0) (c .before .before .before .before .before .before .before .before .push-all .result) q, (omega (arith, l, f), (omega (arith, l, f), file-fits (c .before .before .before .before .before .before .before .before .before .before .before .before .before .before .before .before .before .before .before .before .before .before .before .args .bytes .now) _ (c .before .before .before .before .before .before .before .before .before .before .before .before .before .before .before .before .load .ensures .0) (c .before .before .before .before .before .before .before .before .before .before .before .before .before .before .before .if1 .left) _ _ _ _ _ _ (c .before .before .before .before .before .before .before .before .before .before .before .before .before .before .before .before .load .ensures .1 .0) (c .before .before .before .before .before .before .before .before .before .before .before .before .before .before .before .before .load .ensures .1 .1 .0) (c .before .before .before .before .before .before .before .before .before .before .before .before .before .before .before .before .load .ensures .1 .1 .1 .1) (c .before .before .before .before .before .before .before .before .push-all .last .1 .1 .1 .1 .1 .0) (c .before .before .before .before .before .before .before .before .push-all .last .1 .1 .1 .1 .1 .1 .0) (c .before .before .before .before .before .before .before .before .push-all .result) q w (c .before .before .before .before .before .before .before .before .before .before .before .before .before .before .before .before .before .before .before .before .before .before .before .args .out .now) (c .before .before .before .before .before .before .before .before .before .before .before .before .before .before .if2 .left))))))
+    let p = c .before .before .before .before .before .before .before .before .push-all in
+    let is = p .last .1 .1 .1 .1 .1 .0 in
+    let vs = p .last .1 .1 .1 .1 .1 .1 .0 in
+    let read = c .before .before .before .before .before .before .before .before .before .before .before .before .before .before .before .before in
+    let a = read .before .before .before .before .before .before .before .args in
+    let s = a .bytes .now in
+    let l = read .load .ensures in
+    let f = few s _ (l .0) in
+    let w = all-below s (read .before .before .before .before .before .before .shared-slice-known .given) in
+    let h = holds s _ (l .0) _ _ _ _ _ _ (l .1 .0) (l .1 .1 .0) (l .1 .1 .1 .1) in
+    let i = entries-within s _ (l .0) _ _ _ _ _ _ (l .1 .0) (l .1 .1 .0) (l .1 .1 .1 .1) is vs (p .result) (p .ensures .1) in
+    let o = file-fits s _ (l .0) _ _ _ _ _ _ (l .1 .0) (l .1 .1 .0) (l .1 .1 .1 .1) is vs (p .result) (p .ensures .1) in
+    let z = c .before .before .before .before .before .before .before .before .before .before .before .before .before .before .before .if1 .left in
+    let room = c .before .before .before .before .before .before .before .before .before .before .before .before .before .before .if2 .left in
+    (w, (h, (i, (omega (arith, p .ensures .0, f), (omega (arith, p .ensures .0, f), o z w (a .out .now) room)))))
 
 returns-3 : tie.Need-returns-3
 returns-3 c =
-    all-joined (c .before .before .before .before .before .before .before .before .before .before .before .before .before .before .before .before .before .before .before .before .before .before .before .before .before .before .args .bytes .now) _ (c .before .before .before .before .before .before .before .before .before .before .before .before .before .before .before .before .before .before .before .load .ensures .0) (c .before .before .before .before .before .before .before .before .before .before .before .before .before .before .before .before .before .before .if1 .left) _ _ _ _ _ _ (c .before .before .before .before .before .before .before .before .before .before .before .before .before .before .before .before .before .before .before .load .ensures .1 .0) (c .before .before .before .before .before .before .before .before .before .before .before .before .before .before .before .before .before .before .before .load .ensures .1 .1 .0) (c .before .before .before .before .before .before .before .before .before .before .before .before .before .before .before .before .before .before .before .load .ensures .1 .1 .1 .1) _ _ _ (c .before .before .before .before .before .before .before .before .before .before .before .push-all .ensures .1) _ _ _ (c .before .before .before .before .before .before .before .before .before .before .before .before .before .before .before .before .before .if2 .left) (c .before .before .write-all .ensures .0) (c .before .before .write-all .ensures .1)
+    let wrote = c .before .before .write-all .ensures in
+    let p = c .before .before .before .before .before .before .before .before .before .before .before .push-all .ensures in
+    let room = c .before .before .before .before .before .before .before .before .before .before .before .before .before .before .before .before .before in
+    let read = room .before .before in
+    let l = read .load .ensures in
+    let is = all-joined (read .before .before .before .before .before .before .before .args .bytes .now) _ (l .0) _ _ _ _ _ _ (l .1 .0) (l .1 .1 .0) (l .1 .1 .1 .1) _ _ _ (p .1) (room .before .if1 .left) in
+    is _ _ _ (room .if2 .left) (wrote .0) (wrote .1)
 
 pub join-spec : {M : Type 1} → statement M
 join-spec =
     tie.close
     (tie.spec
     (λ c κs. search needs)
-    (λ c. bad-file (c .before .before .before .before .before .before .before .before .args .bytes .now) _ (c .before .load .ensures .0) _ (c .if1 .taken))
-    (λ c. no-room (c .before .before .before .before .before .before .before .before .before .args .bytes .now) _ (c .before .before .load .ensures .0) (c .before .if1 .left) _ (c .if2 .taken))
-    (λ c. array-long kindIn (c .before .before .before .before .before .before .before .before .before .before .args .bytes .now) _ _ (c .before .before .before .load .ensures .1 .0) refl)
-    (λ c. array-long countIn (c .before .before .before .before .before .before .before .before .before .before .before .args .bytes .now) _ _ (c .before .before .before .before .load .ensures .1 .1 .0) refl)
-    (λ c. array-long placeIn (c .before .before .before .before .before .before .before .before .before .before .before .before .args .bytes .now) _ _ (c .before .before .before .before .before .load .ensures .1 .1 .1 .1) refl)
+    (λ c. bad-file _ _ (c .before .load .ensures .0) _ (c .if1 .taken))
+    (λ c. no-room _ _ (c .before .before .load .ensures .0) (c .before .if1 .left) _ (c .if2 .taken))
+    (λ c. array-long rowIn _ _ _ (c .before .before .before .load .ensures .1 .0) refl)
+    (λ c. array-long countIn _ _ _ (c .before .before .before .before .load .ensures .1 .1 .0) refl)
+    (λ c. array-long payloadIn _ _ _ (c .before .before .before .before .before .load .ensures .1 .1 .1 .1) refl)
     (λ c. search needs)
     (λ c. search needs)
     push-all-requires
-    (λ c. array-long kindIn (c .before .before .before .before .before .before .before .before .before .before .before .before .before .before .before .before .before .before .args .bytes .now) _ _ (c .before .before .before .before .before .before .before .before .before .before .before .load .ensures .1 .0) refl)
-    (λ c. array-long countIn (c .before .before .before .before .before .before .before .before .before .before .before .before .before .before .before .before .before .before .before .args .bytes .now) _ _ (c .before .before .before .before .before .before .before .before .before .before .before .before .load .ensures .1 .1 .0) refl)
-    (λ c. array-long placeIn (c .before .before .before .before .before .before .before .before .before .before .before .before .before .before .before .before .before .before .before .before .args .bytes .now) _ _ (c .before .before .before .before .before .before .before .before .before .before .before .before .before .load .ensures .1 .1 .1 .1) refl)
+    (λ c. array-long rowIn _ _ _ (c .before .before .before .before .before .before .before .before .before .before .before .load .ensures .1 .0) refl)
+    (λ c. array-long countIn _ _ _ (c .before .before .before .before .before .before .before .before .before .before .before .before .load .ensures .1 .1 .0) refl)
+    (λ c. array-long payloadIn _ _ _ (c .before .before .before .before .before .before .before .before .before .before .before .before .before .load .ensures .1 .1 .1 .1) refl)
     (λ c. search needs)
     (λ c. search needs)
     write-all-requires

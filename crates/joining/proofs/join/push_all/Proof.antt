@@ -1,53 +1,29 @@
 -- `joining::join::push_all` meets its contract. Assumes nothing.
-use Prim.Native.Nat.{_<_, _≤_, _-_, zero-le}
-use mathlib.Core.Path.{_≡_, refl}
+use Prim.Native.Nat.{_-_}
 use native.Mathlib.Omega.{arith}
 use borrow.Author.Needs.{needs}
-use lib.ListN.{length}
-use Rattle.joining.specs.Stack.{stack, after}
-use Rattle.joining.proofs.Records.{asks-value, after-more, after-all}
+use Rattle.joining.proofs.Records.{Reads, Pushed, asks-value, none-pushed, more-pushed, all-pushed}
 use Rattle.joining.proofs.join.push_all.Statement.{statement}
 use Rattle.joining.proofs.join.push_all.Tie as tie
 
 abbrev Inv-loop : tie.InvT-loop
-Inv-loop bytes kinds counts places count ops₀ values₀ n₀ i₀ ops values n i =
-    (i ≤ count) × (n ≤ i) × (stack ops values n ≡ after bytes kinds counts i) × (length ops ≡ length ops₀) × (length values ≡ length values₀)
+Inv-loop bytes rows counts payloads count ops₀ values₀ n₀ i₀ ops values n i = Pushed bytes rows counts count ops₀ values₀ ops values n i
 
 abbrev μ-loop : tie.MeasureT-loop
-μ-loop bytes kinds counts places count ops₀ values₀ n₀ i₀ ops values n i = count - i
+μ-loop bytes rows counts payloads count ops₀ values₀ n₀ i₀ ops values n i = count - i
 
-push-requires : tie.Need-push-requires Inv-loop μ-loop
-push-requires c κs =
-    let i = c .before .before .before .before .before .before .before .loop .inv in
-    let h : c .before .before .before .before .before .before .before .loop .n < length (c .before .before .before .before .before .before .before .loop .ops) = omega (arith, i .1, i .3, c .before .before .before .before .before .before .loop-test .taken, c .before .before .before .before .before .before .before .before .before .before .before .before .before .before .pre .1 .0) in
-    let g : c .before .before .before .before .before .before .before .loop .n < length (c .before .before .before .before .before .before .before .loop .values) = omega (arith, i .1, i .4, c .before .before .before .before .before .before .loop-test .taken, c .before .before .before .before .before .before .before .before .before .before .before .before .before .before .pre .1 .1) in
-    (h, g)
-
-loop-again : tie.Need-loop-again Inv-loop μ-loop
-loop-again c =
-    let i = c .before .before .before .before .before .before .before .before .before .before .before .before .loop .inv in
-    (omega (arith, c .before .before .before .before .before .before .before .before .before .before .before .loop-test .taken), omega (arith, c .before .before .before .before .push .ensures .0, i .1), after-more (c .before .before .before .before .before .before .before .before .before .before .before .before .before .before .before .before .before .before .before .args .bytes .now) (c .before .before .before .before .before .before .before .before .before .before .before .before .before .before .before .before .before .before .before .args .kinds .now) (c .before .before .before .before .before .before .before .before .before .before .before .before .before .before .before .before .before .before .before .args .counts .now) (c .before .before .before .before .before .before .before .before .before .before .before .before .before .before .before .before .before .before .before .args .places .now) (c .before .before .before .before .before .before .before .before .before .before .before .before .before .before .before .before .before .before .before .args .count) (c .before .before .before .before .before .before .before .before .before .before .before .before .before .before .before .before .before .before .before .pre .0) (c .before .before .before .before .before .before .before .before .before .before .before .before .loop .i) (c .before .before .before .before .before .before .before .before .before .before .before .loop-test .taken) _ _ _ (c .before .before .before .before .before .before .before .before .before .before .kind-of .ensures) (c .before .before .before .before .before .before .before .before .before .count-of .ensures) (c .before .before .before .before .before .before .before .before .place-of .ensures) _ _ _ (c .before .before .before .before .before .before .before .value-of .ensures) (i .2) (c .before .before .before .before .push .ensures .1), search needs, search needs)
-
-returns : tie.Need-returns Inv-loop μ-loop
-returns c =
-    let i = c .before .loop .inv in
-    (omega (arith, i .0, i .1), after-all (c .before .before .before .before .before .before .before .before .args .bytes .now) (c .before .before .before .before .before .before .before .before .args .kinds .now) (c .before .before .before .before .before .before .before .before .args .counts .now) (c .before .loop .i) (c .before .before .before .before .before .before .before .before .args .count) _ (i .0) (c .loop-test .left) (i .2))
+reads : (c : tie.After-payload-of Inv-loop μ-loop) → let l = c .before .before .before .before in let a = l .before .before .before .before .before .before .before .args in
+    Reads (a .bytes .now) (a .rows .now) (a .counts .now) (a .payloads .now) (a .count) (l .loop .i) (c .before .before .row-of .result) (c .before .count-of .result) (c .payload-of .result)
+reads c = search
 
 pub push-all-spec : {M : Type 1} → statement M
 push-all-spec =
     tie.close
-    (tie.spec
-    Inv-loop
-    μ-loop
-    (λ c. (zero-le, zero-le, refl, refl, refl))
-    (λ c κs. search needs)
-    (λ c κs. search needs)
-    (λ c κs. search needs)
-    (λ c κs. asks-value (c .before .before .before .before .before .before .before .before .before .before .before .args .bytes .now) (c .before .before .before .before .before .before .before .before .before .before .before .args .kinds .now) (c .before .before .before .before .before .before .before .before .before .before .before .args .counts .now) (c .before .before .before .before .before .before .before .before .before .before .before .args .places .now) (c .before .before .before .before .before .before .before .before .before .before .before .args .count) (c .before .before .before .before .before .before .before .before .before .before .before .pre .0) (c .before .before .before .before .loop .i) (c .before .before .before .loop-test .taken) _ _ _ (c .before .before .kind-of .ensures) (c .before .count-of .ensures) (c .place-of .ensures))
-    push-requires
-    (λ c. search needs)
-    (λ c. search needs)
-    loop-again
-    (λ c. search needs)
-    (λ c. search needs)
-    returns)
+    (tie.spec Inv-loop μ-loop (λ c. none-pushed) (search) (search) (search) (λ c κs. asks-value (reads c))
+    (λ c κs. let t = c .before .before .before .before .before .before in omega (arith, t .before .loop, t .loop-test, t .before .before .before .before .before .before .before .before .pre))
+    (λ c. search needs) (λ c. search needs)
+    (λ c.
+    let p = c .before .before .before .before in
+    let v = p .before .before .before in
+    more-pushed (v .before .before .before .before .before .loop .inv) (reads (v .before)) (v .value-of .ensures) _ _ _ (p .push .ensures) (search needs) (search needs))
+    (λ c. search needs) (λ c. search needs) (λ c. all-pushed (c .before .loop .inv) (c .loop-test .left)))

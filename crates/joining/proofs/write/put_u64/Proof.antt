@@ -1,8 +1,7 @@
 -- `joining::write::put_u64` meets its contract. Assumes nothing.
-use Prim.Native.Nat.{_+_, _≤_}
+use Prim.Native.Nat.{_+_}
 use mathlib.Core.Path.{refl, _∙_}
 use native.Mathlib.Omega.{arith}
-use lib.ListN.{length}
 use Rattle.byte_fields.specs.Bytes.{le16, le32, le64}
 use Rattle.byte_fields.proofs.Storage.{placed-then}
 use borrow.Author.Needs.{needs}
@@ -12,9 +11,9 @@ use Rattle.joining.proofs.write.put_u64.Tie as tie
 returns : tie.Need-returns
 unfolding le64 le32 le16
 returns c =
-    let a = c .before .before .before .before .before .before .before .before .before .args in
-    let h : a .at + 4 ≤ length (a .out .now) = omega arith in
-    c .before .before .put-u322 .ensures ∙ rw (c .before .before .before .before .before .before .put-u32 .ensures) (placed-then (a .out .now) (a .at) _ _ (a .at + 4) refl h)
+    let p = c .before .before .before .before .before .before in
+    let a = p .before .before .before .args in
+    c .before .before .put-u322 .ensures ∙ rw (p .put-u32 .ensures) (placed-then (a .out .now) (a .at) _ _ (a .at + 4) refl (omega arith))
 
 pub put-u64-spec : {M : Type 1} → statement M
 put-u64-spec =

@@ -5,7 +5,7 @@ use native.Mathlib.Omega.{arith}
 use borrow.Author.Needs.{needs}
 use lib.ListN.{length}
 use Rattle.lane_loops.specs.Loops.{zipTo, beside}
-use Rattle.lane_loops.proofs.Turns.{zip-again}
+use Rattle.lane_loops.proofs.LaneLoops.{zip-again}
 use Rattle.lane_loops.proofs.loops.copy_lanes.Statement.{statement}
 use Rattle.lane_loops.proofs.loops.copy_lanes.Tie as tie
 

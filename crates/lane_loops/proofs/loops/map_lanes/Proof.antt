@@ -6,7 +6,7 @@ use borrow.Author.Needs.{needs}
 use lib.ListN.{length}
 use Rattle.lanes.specs.Lane.{laneRule}
 use Rattle.lane_loops.specs.Loops.{mapTo}
-use Rattle.lane_loops.proofs.Turns.{map-again}
+use Rattle.lane_loops.proofs.LaneLoops.{map-again}
 use Rattle.lane_loops.proofs.loops.map_lanes.Statement.{statement}
 use Rattle.lane_loops.proofs.loops.map_lanes.Tie as tie
 

@@ -7,7 +7,7 @@ use lib.ListN.{length}
 use Rattle.lanes.specs.Int.{intAdd}
 use Rattle.lanes.specs.Lane.{cellRule}
 use Rattle.lane_loops.specs.Loops.{mapTo}
-use Rattle.lane_loops.proofs.Turns.{map-again}
+use Rattle.lane_loops.proofs.LaneLoops.{map-again}
 use Rattle.lane_loops.proofs.loops.offset_lanes.Statement.{statement}
 use Rattle.lane_loops.proofs.loops.offset_lanes.Tie as tie
 

@@ -6,7 +6,7 @@ use borrow.Author.Needs.{needs}
 use mathlib.Core.List.{List}
 use lib.ListN.{length, getD}
 use Rattle.lane_loops.specs.Loops.{zipTo, beside}
-use Rattle.lane_loops.proofs.Turns.{zip-again, zip-ahead}
+use Rattle.lane_loops.proofs.LaneLoops.{zip-again, zip-ahead}
 use Rattle.lane_loops.proofs.loops.swap_lanes.Statement.{statement}
 use Rattle.lane_loops.proofs.loops.swap_lanes.Tie as tie
 

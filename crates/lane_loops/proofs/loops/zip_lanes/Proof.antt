@@ -6,7 +6,7 @@ use borrow.Author.Needs.{needs}
 use lib.ListN.{length}
 use Rattle.lanes.specs.Lane.{cellRule}
 use Rattle.lane_loops.specs.Loops.{zipTo}
-use Rattle.lane_loops.proofs.Turns.{zip-again}
+use Rattle.lane_loops.proofs.LaneLoops.{zip-again}
 use Rattle.lane_loops.proofs.loops.zip_lanes.Statement.{statement}
 use Rattle.lane_loops.proofs.loops.zip_lanes.Tie as tie
 

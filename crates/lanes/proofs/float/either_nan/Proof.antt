@@ -9,9 +9,4 @@ use Rattle.lanes.proofs.float.either_nan.Tie as tie
 
 pub either-nan-spec : {M : Type 1} → statement M
 either-nan-spec =
-    tie.close
-    (tie.spec
-    (λ c. search needs)
-    (λ c. search needs)
-    (λ c κs. search needs)
-    (λ c. ap (λ (n : ℕ). leb (2 ^ 63) n) (c .bit-or .ensures) ∙ either _ _))
+    tie.close (tie.spec (search needs) (search needs) (search) (λ c. ap (λ (n : ℕ). leb (2 ^ 63) n) (c .bit-or .ensures) ∙ either _ _))

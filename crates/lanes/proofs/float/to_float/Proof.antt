@@ -8,10 +8,7 @@ use Rattle.lanes.proofs.float.to_float.Tie as tie
 pub to-float-spec : {M : Type 1} → statement M
 to-float-spec =
     tie.close
-    (tie.spec
-    (λ c κs. search needs)
-    (λ c κs. search needs)
+    (tie.spec (search) (search)
     (λ c. float-number (c .before .before .args .a) (c .before .magnitude .ensures) (c .nearest-u64-to-f64 .ensures))
-    (λ c. search needs)
-    (λ c κs. search needs)
+    (λ c. search needs) (search)
     (λ c. c .wrapping-add-u64 .ensures ∙ float-signed (c .before .before .before .args .a) (c .before .before .magnitude .ensures) (c .before .nearest-u64-to-f64 .ensures) (search needs)))

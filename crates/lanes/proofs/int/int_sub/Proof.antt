@@ -7,7 +7,4 @@ use Rattle.lanes.proofs.int.int_sub.Tie as tie
 
 pub int-sub-spec : {M : Type 1} → statement M
 int-sub-spec =
-    tie.close
-    (tie.spec
-    (λ c κs. search needs)
-    (λ c. rw (wrap-minus (c .before .args .a) (c .before .args .b) (search needs) (search needs)) (omega arith)))
+    tie.close (tie.spec (search) (λ c. rw (wrap-minus (c .before .args .a) (c .before .args .b) (search needs) (search needs)) (omega arith)))

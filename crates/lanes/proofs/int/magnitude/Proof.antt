@@ -8,9 +8,4 @@ use Rattle.lanes.proofs.int.magnitude.Tie as tie
 
 pub magnitude-spec : {M : Type 1} → statement M
 magnitude-spec =
-    tie.close
-    (tie.spec
-    (λ c. search needs)
-    (λ c. search needs)
-    (λ c. sym (abs-low _ (c .if1 .taken)))
-    (λ c. rw (abs-high (c .before .args .a) (search needs) (c .if1 .left)) (omega arith)))
+    tie.close (tie.spec (search needs) (search needs) (λ c. sym (abs-low _ (c .if1 .taken))) (λ c. rw (abs-high (c .before .args .a) (search needs) (c .if1 .left)) (omega arith)))

@@ -1,71 +1,20 @@
 -- `lanes::lane::cell_rule` meets its contract: in each arm the callee's own contract is the rule of the op that the arm knows. Assumes nothing.
-use borrow.Author.Needs.{needs}
+use mathlib.Core.Path.{_≡_}
+use Prim.Native.Nat.{ℕ}
 use Rattle.lanes.specs.Lane.{cellRule}
+use Rattle.lanes.specs.declared.lane.CellOp.{CellOp}
 use Rattle.lanes.proofs.lane.cell_rule.Statement.{statement}
 use Rattle.lanes.proofs.lane.cell_rule.Tie as tie
+
+told : (op k : CellOp) (a b r : ℕ) → op ≡ k → r ≡ cellRule k a b → r ≡ cellRule op a b
+told op k a b r e h = rw e h
 
 pub cell-rule-spec : {M : Type 1} → statement M
 unfolding cellRule
 cell-rule-spec =
     tie.close
     (tie.spec
-    (λ c. search needs)
-    (λ c κs. search needs)
-    (λ c. search needs)
-    (λ c κs. search needs)
-    (λ c. search needs)
-    (λ c κs. search needs)
-    (λ c. search needs)
-    (λ c κs. search needs)
-    (λ c. search needs)
-    (λ c κs. search needs)
-    (λ c. search needs)
-    (λ c κs. search needs)
-    (λ c. search needs)
-    (λ c κs. search needs)
-    (λ c. search needs)
-    (λ c κs. search needs)
-    (λ c. search needs)
-    (λ c κs. search needs)
-    (λ c. search needs)
-    (λ c κs. search needs)
-    (λ c. search needs)
-    (λ c κs. search needs)
-    (λ c. search needs)
-    (λ c κs. search needs)
-    (λ c. search needs)
-    (λ c κs. search needs)
-    (λ c. search needs)
-    (λ c κs. search needs)
-    (λ c. search needs)
-    (λ c κs. search needs)
-    (λ c. search needs)
-    (λ c κs. search needs)
-    (λ c. search needs)
-    (λ c κs. search needs)
-    (λ c. search needs)
-    (λ c κs. search needs)
-    (λ c. search needs)
-    (λ c κs. search needs)
-    (λ c. search needs)
-    (λ c κs. search needs)
-    (λ c. rw (c .before .enum-told .given .1) (c .int-index .ensures))
-    (λ c. rw (c .before .enum-told2 .given .1) (c .bit-nand .ensures))
-    (λ c. rw (c .before .enum-told3 .given .1) (c .bit-and .ensures))
-    (λ c. rw (c .before .enum-told4 .given .1) (c .bit-or .ensures))
-    (λ c. rw (c .before .enum-told5 .given .1) (c .bit-xor .ensures))
-    (λ c. rw (c .before .enum-told6 .given .1) (c .int-shl .ensures))
-    (λ c. rw (c .before .enum-told7 .given .1) (c .int-shr .ensures))
-    (λ c. rw (c .before .enum-told8 .given .1) (c .int-sar .ensures))
-    (λ c. rw (c .before .enum-told9 .given .1) (c .bool-and .ensures))
-    (λ c. rw (c .before .enum-told10 .given .1) (c .bool-or .ensures))
-    (λ c. rw (c .before .enum-told11 .given .1) (c .int-add .ensures))
-    (λ c. rw (c .before .enum-told12 .given .1) (c .int-sub .ensures))
-    (λ c. rw (c .before .enum-told13 .given .1) (c .int-mul .ensures))
-    (λ c. rw (c .before .enum-told14 .given .1) (c .int-div .ensures))
-    (λ c. rw (c .before .enum-told15 .given .1) (c .int-rem .ensures))
-    (λ c. rw (c .before .enum-told16 .given .1) (c .float-add .ensures))
-    (λ c. rw (c .before .enum-told17 .given .1) (c .float-sub .ensures))
-    (λ c. rw (c .before .enum-told18 .given .1) (c .float-mul .ensures))
-    (λ c. rw (c .before .enum-told19 .given .1) (c .float-div .ensures))
-    (λ c. rw (c .before .enum-told20 .given .1) (c .float-rem .ensures)))
+    (λ c. cc) (search) (λ c. cc) (search) (λ c. cc) (search) (λ c. cc) (search) (λ c. cc) (search) (λ c. cc) (search) (λ c. cc) (search) (λ c. cc) (search) (λ c. cc) (search) (λ c. cc) (search)
+    (λ c. cc) (search) (λ c. cc) (search) (λ c. cc) (search) (λ c. cc) (search) (λ c. cc) (search) (λ c. cc) (search) (λ c. cc) (search) (λ c. cc) (search) (λ c. cc) (search) (λ c. cc) (search)
+    (λ c. search told) (λ c. search told) (λ c. search told) (λ c. search told) (λ c. search told) (λ c. search told) (λ c. search told) (λ c. search told) (λ c. search told) (λ c. search told)
+    (λ c. search told) (λ c. search told) (λ c. search told) (λ c. search told) (λ c. search told) (λ c. search told) (λ c. search told) (λ c. search told) (λ c. search told) (λ c. search told))

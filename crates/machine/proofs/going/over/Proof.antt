@@ -1,6 +1,6 @@
 -- `machine::going::over` meets its contract. Assumes nothing.
 use mathlib.Core.Path.{refl}
-use Rattle.machine.specs.Going.{overOf}
+use Rattle.machine.specs.Ready.{overOf}
 use Rattle.machine.proofs.going.over.Statement.{statement}
 use Rattle.machine.proofs.going.over.Tie as tie
 

@@ -1,21 +1,32 @@
 -- `machine_step::step::step` meets its contract. Assumes nothing.
+use Rattle.basics.specs.Pick.{pick}
 use Rattle.machine_step.specs.Step.{stepOf}
-use Rattle.hops.specs.Place.{pick}
 use borrow.Author.Tests.{lt-ltb, le-ltb}
 use mathlib.Core.Path.{refl}
 use borrow.Author.Needs.{needs}
 use Rattle.machine_step.proofs.step.step.Statement.{statement}
 use Rattle.machine_step.proofs.step.step.Tie as tie
 
-returns : tie.Need-returns
-unfolding stepOf pick
-returns c = rw (← c .before .before .before .before .before .wide2 .ensures .0, lt-ltb _ _ (c .before .if1 .taken), c .refuse .ensures) refl
-
 returns-2 : tie.Need-returns-2
 unfolding stepOf pick
-returns-2 c = rw (← c .before .before .before .before .before .before .before .before .before .before .before .before .before .before .before .before .before .before .before .before .before .before .before .before .wide .ensures .0, ← c .before .before .before .before .before .before .before .before .before .before .before .before .before .before .before .before .before .before .before .before .before .before .wide2 .ensures .0, ← c .before .before .before .before .before .before .before .before .before .before .before .before .before .before .before .before .before .before .before .before .wide32 .ensures .0, le-ltb _ _ (c .before .before .before .before .before .before .before .before .before .before .before .before .before .before .before .before .before .before .if1 .left)) (c .before .before .before .before .before .before .before .before .before .before .op .ensures)
+returns-2 c =
+    let worked = c .before .before .before .before .before .before .before .before .before .before in
+    let tested = worked .before .before .before .before .before .before .before .before in
+    let read = tested .before .before in
+    rw
+    (← read .before .before .before .before .wide-short .ensures .0, ← read .before .before .wide-short2 .ensures .0, ← read .wide-int .ensures .0, le-ltb _ _ (tested .if1 .left))
+    (worked .op .ensures)
+
+-- the payload of the op at the position, as it was read
+op-requires : tie.Need-op-requires
+op-requires c κs =
+    let read = c .before .before .before .before .before .before .before .before .before in
+    let counted = read .before .before .before .before in
+    let asks = counted .before .before .before .before .before .before .before .before .before .before .before .before .before .before .pre in
+    (search needs, rw (read .wide-int .ensures .0, counted .wide-short .ensures .0) (asks .1 .each _ (asks .0 .steers .here)), search needs, asks .2)
 
 pub step-spec : {M : Type 1} → statement M
+unfolding stepOf pick
 step-spec =
     tie.close
     (tie.spec
@@ -30,8 +41,8 @@ step-spec =
     (λ c. search needs)
     (λ c κs. search needs)
     (λ c κs. search needs)
-    returns
-    (λ c κs. let f = c .before .before .before .before .before .before .before .before .before .before .before .before .before .before .before .before .before .before .before .before .before .before .before .before .before .before .before .pre .11 in let l = c .before .before .before .before .before .before .before .before .before .before .before .before .before .before .before .before .before .before .before .before .before .before .before .before .before .before .before .pre .0 in let w = c .before .before .before .before .before .before .before .before .before .wide32 .ensures .0 in let v = c .before .before .before .before .before .before .before .before .before .before .before .before .before .wide .ensures .0 in (search needs, search needs, search needs, search needs, search needs, search needs, search needs, search needs, search needs, search needs, search needs, rw (v) (f .count _ l), (λ e. rw (w, v) (f .ints _ l e)), (λ e. rw (w, v) (f .floats _ l e)), (λ e. rw (w) (f .amount _ l e)), (λ e. rw (w) (f .by _ l e)), (λ e. rw (w) (f .gets _ l e)), (λ e. rw (w) (f .puts _ l e)), search needs, c .before .before .before .before .before .before .before .before .before .before .before .before .before .before .before .before .before .before .before .before .before .before .before .before .before .before .before .pre .12))
+    (λ c. rw (← c .before .before .before .before .before .wide-short2 .ensures .0, lt-ltb _ _ (c .before .if1 .taken), c .refuse .ensures) refl)
+    op-requires
     (λ c. search needs)
     (λ c. search needs)
     (λ c. search needs)

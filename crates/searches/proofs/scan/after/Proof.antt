@@ -3,38 +3,39 @@ use mathlib.Core.Path.{refl, sym}
 use native.Mathlib.Omega.{arith}
 use native.Mathlib.Numerals.{add-one}
 use borrow.Author.Tests.{ne-eqb}
-use Rattle.searches.specs.Found.{pick, rowMark, depthAfter}
+use Rattle.basics.specs.Pick.{pick}
+use Rattle.searches.specs.Found.{rowBracket, depthAfter}
 use Rattle.searches.proofs.Scans.{after-down}
 use borrow.Author.Needs.{needs}
 use Rattle.searches.proofs.scan.after.Statement.{statement}
 use Rattle.searches.proofs.scan.after.Tie as tie
 
 returns : tie.Need-returns
-unfolding rowMark pick depthAfter
+unfolding rowBracket pick depthAfter
 returns c = (rw (c .before .if1 .taken, c .if2 .taken) refl, omega arith)
 
 returns-2 : tie.Need-returns-2
-unfolding rowMark pick
+unfolding rowBracket pick
 returns-2 c = (rw (c .before .if1 .taken) (sym (after-down _)), omega arith)
 
 returns-3 : tie.Need-returns-3
-unfolding rowMark pick depthAfter
+unfolding rowBracket pick depthAfter
 returns-3 c = (rw (c .if3 .taken) refl, omega arith)
 
 returns-4 : tie.Need-returns-4
-unfolding rowMark pick depthAfter
+unfolding rowBracket pick depthAfter
 returns-4 c = (rw (c .if4 .taken) (add-one _), omega arith)
 
 returns-5 : tie.Need-returns-5
-unfolding rowMark pick depthAfter
+unfolding rowBracket pick depthAfter
 returns-5 c = (rw (c .if5 .taken) (add-one _), omega arith)
 
 returns-6 : tie.Need-returns-6
-unfolding rowMark pick depthAfter
+unfolding rowBracket pick depthAfter
 returns-6 c = (rw (c .if6 .taken) (add-one _), omega arith)
 
 returns-7 : tie.Need-returns-7
-unfolding rowMark pick depthAfter
+unfolding rowBracket pick depthAfter
 returns-7 c = (rw (ne-eqb _ _ (c .before .before .before .before .if1 .left), ne-eqb _ _ (c .before .before .before .if3 .left), ne-eqb _ _ (c .before .before .if4 .left), ne-eqb _ _ (c .before .if5 .left), ne-eqb _ _ (c .if6 .left)) refl, omega arith)
 
 pub after-spec : {M : Type 1} → statement M

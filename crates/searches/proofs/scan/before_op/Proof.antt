@@ -3,34 +3,35 @@ use mathlib.Core.Path.{refl, sym}
 use native.Mathlib.Omega.{arith}
 use native.Mathlib.Numerals.{add-one}
 use borrow.Author.Tests.{ne-eqb}
-use Rattle.searches.specs.Found.{pick, rowMark, depthBefore}
+use Rattle.basics.specs.Pick.{pick}
+use Rattle.searches.specs.Found.{rowBracket, depthBefore}
 use Rattle.searches.proofs.Scans.{before-up, before-other}
 use borrow.Author.Needs.{needs}
 use Rattle.searches.proofs.scan.before_op.Statement.{statement}
 use Rattle.searches.proofs.scan.before_op.Tie as tie
 
 returns : tie.Need-returns
-unfolding rowMark pick depthBefore
+unfolding rowBracket pick depthBefore
 returns c = (rw (c .if1 .taken) (add-one _), omega arith)
 
 returns-2 : tie.Need-returns-2
-unfolding rowMark pick depthBefore
+unfolding rowBracket pick depthBefore
 returns-2 c = (rw (c .if2 .taken) refl, omega arith)
 
 returns-4 : tie.Need-returns-4
-unfolding rowMark pick
+unfolding rowBracket pick
 returns-4 c = (rw (c .if4 .taken) (sym (before-up _)), omega arith)
 
 returns-5 : tie.Need-returns-5
-unfolding rowMark pick
+unfolding rowBracket pick
 returns-5 c = (rw (c .if5 .taken) (sym (before-up _)), omega arith)
 
 returns-6 : tie.Need-returns-6
-unfolding rowMark pick
+unfolding rowBracket pick
 returns-6 c = (rw (c .if6 .taken) (sym (before-up _)), omega arith)
 
 returns-7 : tie.Need-returns-7
-unfolding rowMark pick depthBefore
+unfolding rowBracket pick depthBefore
 returns-7 c = (rw (ne-eqb _ _ (c .before .before .before .before .before .if1 .left), ne-eqb _ _ (c .before .before .before .before .if2 .left), ne-eqb _ _ (c .before .before .if4 .left), ne-eqb _ _ (c .before .if5 .left), ne-eqb _ _ (c .if6 .left)) refl, omega arith)
 
 pub before-op-spec : {M : Type 1} → statement M

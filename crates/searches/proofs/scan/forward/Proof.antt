@@ -4,16 +4,16 @@ use Prim.Native.Nat.{_-_, _≤_}
 use lib.ListN.{length}
 use native.Mathlib.Omega.{arith}
 use borrow.Author.Needs.{needs}
-use Rattle.searches.specs.Found.{rowMark, forwardOf}
+use Rattle.searches.specs.Found.{rowBracket, forwardOf}
 use Rattle.searches.proofs.Scans.{searched, toLeave, forward-turning, starts, from-here, from-on, from-none}
 use Rattle.searches.proofs.scan.forward.Statement.{statement}
 use Rattle.searches.proofs.scan.forward.Tie as tie
 
 abbrev Inv-scan : tie.InvT-scan
-Inv-scan kinds from either i₀ depth₀ i depth = (i ≤ length kinds) × (depth ≤ i) × (searched (toLeave either) rowMark kinds i depth ≡ forwardOf either kinds from)
+Inv-scan rows from either i₀ depth₀ i depth = (i ≤ length rows) × (depth ≤ i) × (searched (toLeave either) rowBracket rows i depth ≡ forwardOf either rows from)
 
 abbrev μ-scan : tie.MeasureT-scan
-μ-scan kinds from either i₀ depth₀ i depth = length kinds - i
+μ-scan rows from either i₀ depth₀ i depth = length rows - i
 
 scan-holds : tie.Need-scan-holds Inv-scan μ-scan
 scan-holds c = (omega arith, omega arith, starts _ _ _)
@@ -23,7 +23,7 @@ scan-again c = (
   omega arith,
   omega arith,
   rw (c .after .ensures .0)
-      (from-on (forward-turning _) rowMark _ _ _ (omega arith) (sym (c .before .before .leaves .ensures) ∙ c .before .if2 .left)
+      (from-on (forward-turning _) rowBracket _ _ _ (omega arith) (sym (c .before .before .leaves .ensures) ∙ c .before .if2 .left)
       ∙ c .before .before .before .before .before .scan .inv .2),
 )
 
@@ -40,5 +40,5 @@ forward-spec =
     (λ c. search needs)
     (λ c. search needs)
     scan-again
-    (λ c. (from-none (forward-turning _) rowMark _ _ _ (c .if1 .taken) ∙ c .before .scan .inv .2, search needs))
-    (λ c. (from-here (forward-turning _) rowMark _ _ _ (omega arith) (sym (c .before .leaves .ensures) ∙ c .if2 .taken) ∙ c .before .before .before .before .scan .inv .2, search needs)))
+    (λ c. (from-none (forward-turning _) rowBracket _ _ _ (c .if1 .taken) ∙ c .before .scan .inv .2, search needs))
+    (λ c. (from-here (forward-turning _) rowBracket _ _ _ (omega arith) (sym (c .before .leaves .ensures) ∙ c .if2 .taken) ∙ c .before .before .before .before .scan .inv .2, search needs)))

@@ -9,10 +9,10 @@ use Rattle.searches.proofs.scan.get_matching_for_end.Statement.{stateme
 use Rattle.searches.proofs.scan.get_matching_for_end.Tie as tie
 
 abbrev Inv-scan : tie.InvT-scan
-Inv-scan kinds at i₀ depth₀ i depth = (depth + i ≤ at) × (back kinds i depth ≡ openOf kinds at)
+Inv-scan rows at i₀ depth₀ i depth = (depth + i ≤ at) × (back rows i depth ≡ openOf rows at)
 
 abbrev μ-scan : tie.MeasureT-scan
-μ-scan kinds at i₀ depth₀ i depth = i
+μ-scan rows at i₀ depth₀ i depth = i
 
 scan-holds : tie.Need-scan-holds Inv-scan μ-scan
 unfolding back openOf

@@ -1,20 +1,21 @@
 -- `searches::scan::leaves` meets its contract. Assumes nothing.
 use borrow.Author.Tests.{ne-eqb}
-use Rattle.searches.specs.Found.{pick, rowMark}
+use Rattle.basics.specs.Pick.{pick}
+use Rattle.searches.specs.Found.{rowBracket}
 use Rattle.searches.proofs.Scans.{leaves-down, leaves-mid, passes-mid, leaves-other}
 use Rattle.searches.proofs.scan.leaves.Statement.{statement}
 use Rattle.searches.proofs.scan.leaves.Tie as tie
 
 returns : tie.Need-returns
-unfolding rowMark pick
+unfolding rowBracket pick
 returns c = rw (c .if1 .taken) (leaves-down _ _)
 
 returns-2 : tie.Need-returns-2
-unfolding rowMark pick
+unfolding rowBracket pick
 returns-2 c = rw (c .before .if2 .taken, c .if3 .taken) (leaves-mid _)
 
 returns-3 : tie.Need-returns-3
-unfolding rowMark pick
+unfolding rowBracket pick
 returns-3 c = rw (c .before .if2 .taken, c .if3 .left) (passes-mid _)
 
 pub leaves-spec : {M : Type 1} → statement M

@@ -19,13 +19,13 @@ returns-2 c =
     let p = c .before .before .before .before .before .before .before .pre in
     let f = c .partner .ensures .0 in
     let v = ap (λ (n : ℕ). n + 1) f in
-    (f, looked-first _ _ _ (c .before .before .before .before .if1 .left) (sym (c .before .before .wide .ensures) ∙ c .before .if2 .taken) _ v, noted-on _ _ _ _ (omega (arith, p .0, p .1, p .2 .many)) (p .2) v)
+    (f, looked-first _ _ _ (c .before .before .before .before .if1 .left) (sym (c .before .before .wide-short .ensures .0) ∙ c .before .if2 .taken) _ v, noted-on _ _ _ _ (omega (arith, p .0, p .1, p .2 .many)) (p .2) v)
 
 returns-3 : tie.Need-returns-3
 returns-3 c =
     let p = c .before .before .before .before .before .before .pre in
     let a = c .before .before .before .before .before .before .args in
-    let n = c .before .wide .ensures in
+    let n = c .before .wide-short .ensures .0 in
     let z : 0 < getD (a .partners .now) (a .i) 0 = omega (arith, n, c .if2 .left) in
     let e = p .2 .each (a .i) (p .0) z in
     (omega (arith, e, n), looked-again _ _ _ (c .before .before .before .if1 .left) (λ (q : getD (a .partners .now) (a .i) 0 ≡ 0). omega (arith, q, z)), p .2)

@@ -11,10 +11,10 @@ use Rattle.searches.proofs.scan.nth_function.Statement.{statement}
 use Rattle.searches.proofs.scan.nth_function.Tie as tie
 
 abbrev Inv-scan : tie.InvT-scan
-Inv-scan kinds n i₀ left₀ i left = (i ≤ length kinds) × (searched kth rowFunction kinds i left ≡ markOf kinds n)
+Inv-scan rows n i₀ left₀ i left = (i ≤ length rows) × (searched kth rowFunction rows i left ≡ markOf rows n)
 
 abbrev μ-scan : tie.MeasureT-scan
-μ-scan kinds n i₀ left₀ i left = length kinds - i
+μ-scan rows n i₀ left₀ i left = length rows - i
 
 scan-holds : tie.Need-scan-holds Inv-scan μ-scan
 unfolding searched markOf

@@ -1,20 +1,21 @@
 -- `searches::scan::opens` meets its contract. Assumes nothing.
 use borrow.Author.Tests.{ne-eqb}
-use Rattle.searches.specs.Found.{pick, rowMark}
+use Rattle.basics.specs.Pick.{pick}
+use Rattle.searches.specs.Found.{rowBracket}
 use Rattle.searches.proofs.Scans.{opens-up, opens-other}
 use Rattle.searches.proofs.scan.opens.Statement.{statement}
 use Rattle.searches.proofs.scan.opens.Tie as tie
 
 returns : tie.Need-returns
-unfolding rowMark pick
+unfolding rowBracket pick
 returns c = rw (c .if1 .taken) (opens-up _)
 
 returns-2 : tie.Need-returns-2
-unfolding rowMark pick
+unfolding rowBracket pick
 returns-2 c = rw (c .if2 .taken) (opens-up _)
 
 returns-3 : tie.Need-returns-3
-unfolding rowMark pick
+unfolding rowBracket pick
 returns-3 c = rw (c .if3 .taken) (opens-up _)
 
 pub opens-spec : {M : Type 1} → statement M

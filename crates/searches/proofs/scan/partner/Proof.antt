@@ -2,7 +2,8 @@
 use mathlib.Core.Path.{refl}
 use borrow.Author.Needs.{needs}
 use borrow.Author.Tests.{ne-eqb}
-use Rattle.searches.specs.Found.{pick, partnerOf}
+use Rattle.basics.specs.Pick.{pick}
+use Rattle.searches.specs.Found.{partnerOf}
 use Rattle.searches.proofs.scan.partner.Statement.{statement}
 use Rattle.searches.proofs.scan.partner.Tie as tie
 

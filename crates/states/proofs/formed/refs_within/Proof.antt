@@ -6,13 +6,14 @@ use native.Mathlib.Nat.{sub-zero}
 use borrow.Author.Needs.{needs}
 use lib.Dec.{leb}
 use borrow.Author.Tests.{lt-leb, le-leb}
+use Rattle.basics.specs.Limits.{farthest}
 use Rattle.states.specs.Formed.{allOf, refsWithin}
 use Rattle.states.proofs.Entries.{left, all-end, all-on, all-not}
 use Rattle.states.proofs.formed.refs_within.Statement.{statement}
 use Rattle.states.proofs.formed.refs_within.Tie as tie
 
 abbrev Inv-loop : tie.InvT-loop
-Inv-loop refs n i₀ i = (i ≤ n) × (refsWithin refs n ≡ allOf (λ r. leb r 1_000_000_000) (left refs n i))
+Inv-loop refs n i₀ i = (i ≤ n) × (refsWithin refs n ≡ allOf (λ r. leb r farthest) (left refs n i))
 
 abbrev μ-loop : tie.MeasureT-loop
 μ-loop refs n i₀ i = n - i
@@ -30,8 +31,9 @@ refs-within-spec =
     loop-holds
     (λ c. search needs)
     (λ c. search needs)
-    (λ c. sym (c .before .before .before .loop .inv .1 ∙ all-not _ _ _ _ (c .before .before .loop-test .taken) (omega arith) (lt-leb _ _ (c .if1 .taken))))
+    (λ c κs. search needs)
+    (λ c. sym (c .before .before .before .before .loop .inv .1 ∙ all-not _ _ _ _ (c .before .before .before .loop-test .taken) (omega arith) (lt-leb _ _ (rw (c .before .wide-int .ensures .0) at (c .if1 .taken)))))
     (λ c. search needs)
     (λ c. search needs)
-    (λ c. (search needs, c .before .before .before .loop .inv .1 ∙ all-on _ _ _ _ (c .before .before .loop-test .taken) (omega arith) (le-leb _ _ (c .if1 .left))))
+    (λ c. (search needs, c .before .before .before .before .loop .inv .1 ∙ all-on _ _ _ _ (c .before .before .before .loop-test .taken) (omega arith) (le-leb _ _ (rw (c .before .wide-int .ensures .0) at (c .if1 .left)))))
     (λ c. sym (c .before .loop .inv .1 ∙ all-end _ _ _ _ (c .loop-test .left))))

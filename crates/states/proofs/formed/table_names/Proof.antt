@@ -10,10 +10,10 @@ use Rattle.states.proofs.formed.table_names.Statement.{statement}
 use Rattle.states.proofs.formed.table_names.Tie as tie
 
 abbrev Inv-loop : tie.InvT-loop
-Inv-loop table n kinds i₀ least₀ i least = (i ≤ n) × (tableNames table n kinds ≡ namesFrom kinds least (left table n i))
+Inv-loop table n rows i₀ least₀ i least = (i ≤ n) × (tableNames table n rows ≡ namesFrom rows least (left table n i))
 
 abbrev μ-loop : tie.MeasureT-loop
-μ-loop table n kinds i₀ least₀ i least = n - i
+μ-loop table n rows i₀ least₀ i least = n - i
 
 loop-holds : tie.Need-loop-holds Inv-loop μ-loop
 unfolding tableNames
@@ -29,12 +29,12 @@ table-names-spec =
     (λ c. search needs)
     (λ c. search needs)
     (λ c κs. search needs)
-    (λ c. sym (c .before .before .before .before .loop .inv .1 ∙ names-low _ _ _ _ _ _ (c .before .before .before .loop-test .taken) (omega arith) (c .before .wide .ensures .0) (c .if1 .taken)))
-    (λ c. sym (c .before .before .before .before .before .loop .inv .1 ∙ names-beyond _ _ _ _ _ _ (c .before .before .before .before .loop-test .taken) (omega arith) (c .before .before .wide .ensures .0) (c .before .if1 .left) (c .if2 .taken)))
+    (λ c. sym (c .before .before .before .before .loop .inv .1 ∙ names-low _ _ _ _ _ _ (c .before .before .before .loop-test .taken) (omega arith) (c .before .wide-short .ensures .0) (c .if1 .taken)))
+    (λ c. sym (c .before .before .before .before .before .loop .inv .1 ∙ names-beyond _ _ _ _ _ _ (c .before .before .before .before .loop-test .taken) (omega arith) (c .before .before .wide-short .ensures .0) (c .before .if1 .left) (c .if2 .taken)))
     (λ c. search needs)
-    (λ c. sym (c .before .before .before .before .before .before .before .loop .inv .1 ∙ names-not _ _ _ _ _ _ (c .before .before .before .before .before .before .loop-test .taken) (omega arith) (c .before .before .before .before .wide .ensures .0) (c .before .before .before .if1 .left) (c .if3 .taken)))
+    (λ c. sym (c .before .before .before .before .before .before .before .loop .inv .1 ∙ names-not _ _ _ _ _ _ (c .before .before .before .before .before .before .loop-test .taken) (omega arith) (c .before .before .before .before .wide-short .ensures .0) (c .before .before .before .if1 .left) (c .if3 .taken)))
     (λ c. search needs)
     (λ c. search needs)
     (λ c. search needs)
-    (λ c. (search needs, c .before .before .before .before .before .before .before .loop .inv .1 ∙ names-on _ _ _ _ _ _ (c .before .before .before .before .before .before .loop-test .taken) (omega arith) (c .before .before .before .before .wide .ensures .0) (c .before .before .before .if1 .left) (c .if3 .left)))
+    (λ c. (search needs, c .before .before .before .before .before .before .before .loop .inv .1 ∙ names-on _ _ _ _ _ _ (c .before .before .before .before .before .before .loop-test .taken) (omega arith) (c .before .before .before .before .wide-short .ensures .0) (c .before .before .before .if1 .left) (c .if3 .left)))
     (λ c. sym (c .before .loop .inv .1 ∙ names-end _ _ _ _ _ (c .loop-test .left))))

@@ -1,38 +1,27 @@
 -- `testing_device::channel::peek` meets its contract. Assumes nothing.
-use mathlib.Core.Path.{_∙_, refl, sym}
+use mathlib.Core.Path.{_≡_, _∙_, sym}
+use mathlib.Core.Bool.{true}
 use native.Mathlib.Omega.{arith}
 use borrow.Author.Tests.{not-true, not-false}
-use Rattle.testing_device.specs.Channel.{peekOf}
-use Rattle.testing_device.proofs.Rings.{ringed, peek-none, peek-some}
+use Rattle.testing_device.specs.Channel.{isRing, peekOf}
+use Rattle.testing_device.proofs.Rings.{Ringed, ringed, peek-none, peek-some}
 use borrow.Author.Needs.{needs}
 use Rattle.testing_device.proofs.channel.peek.Statement.{statement}
 use Rattle.testing_device.proofs.channel.peek.Tie as tie
 
+ring : (c : tie.Else1) → let a = c .before .before .before .args in isRing (a .channel .now) (a .first) (a .waiting) ≡ true
+ring c = sym (c .before .is-ring .ensures) ∙ not-false _ (c .if1 .left)
+
+within : (c : tie.Else1) → let a = c .before .before .before .args in Ringed (a .channel .now) (a .first) (a .waiting)
+within c = ringed _ _ _ (ring c)
+
 returns : tie.Need-returns
 unfolding peekOf
-returns c = rw (sym (c .before .is-ring .ensures) ∙ not-true _ (c .if1 .taken)) refl
-
-add-next : tie.Need-add-next
-add-next c =
-    let a = c .before .before .before .before .args in let w = ringed (a .channel .now) (a .first) (a .waiting) (sym (c .before .before .is-ring .ensures) ∙ not-false _ (c .before .if1 .left)) in omega (arith, w .first)
-
-mul-t7 : tie.Need-mul-t7
-mul-t7 c =
-    let a = c .before .before .before .before .args in let w = ringed (a .channel .now) (a .first) (a .waiting) (sym (c .before .before .is-ring .ensures) ∙ not-false _ (c .before .if1 .left)) in omega (arith, w .first)
-
-shared-slice-read-t9 : tie.Need-shared-slice-read-t9
-shared-slice-read-t9 c =
-    let a = c .before .before .before .before .before .args in let w = ringed (a .channel .now) (a .first) (a .waiting) (sym (c .before .before .before .is-ring .ensures) ∙ not-false _ (c .before .before .if1 .left)) in omega (arith, w .first, w .room)
+returns c = rw (sym (c .before .is-ring .ensures) ∙ not-true _ (c .if1 .taken))
 
 pub peek-spec : {M : Type 1} → statement M
 peek-spec =
     tie.close
-    (tie.spec
-    (λ c κs. search needs)
-    returns
-    (λ c. sym (peek-none _ _ _ (sym (c .before .before .is-ring .ensures) ∙ not-false _ (c .before .if1 .left)) (c .if2 .taken)))
-    add-next
-    mul-t7
-    shared-slice-read-t9
-    (λ c. search needs)
-    (λ c. sym (peek-some _ _ _ (sym (c .before .before .before .is-ring .ensures) ∙ not-false _ (c .before .before .if1 .left)) (omega arith))))
+    (tie.spec (search) returns (λ c. sym (peek-none _ _ _ (ring (c .before)) (c .if2 .taken)))
+    (λ c. omega (arith, within (c .before))) (λ c. omega (arith, within (c .before))) (λ c. omega (arith, within (c .before .before))) (λ c. search needs)
+    (λ c. sym (peek-some _ _ _ (ring (c .before .before)) (omega arith))))

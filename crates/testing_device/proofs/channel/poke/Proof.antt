@@ -1,45 +1,26 @@
 -- `testing_device::channel::poke` meets its contract. Assumes nothing.
-use mathlib.Core.Path.{_∙_, refl, sym}
+use mathlib.Core.Path.{_≡_, _∙_, sym}
+use mathlib.Core.Bool.{true}
 use native.Mathlib.Omega.{arith}
 use borrow.Author.Tests.{not-true, not-false, le-leb, lt-leb}
-use Rattle.testing_device.specs.Channel.{pokeIn}
-use Rattle.testing_device.proofs.Rings.{ringed}
+use Rattle.testing_device.specs.Channel.{isRing, pokeIn}
+use Rattle.testing_device.proofs.Rings.{Ringed, ringed}
 use borrow.Author.Needs.{needs}
 use Rattle.testing_device.proofs.channel.poke.Statement.{statement}
 use Rattle.testing_device.proofs.channel.poke.Tie as tie
 
-returns : tie.Need-returns
-unfolding pokeIn
-returns c = rw (sym (c .before .is-ring .ensures) ∙ not-true _ (c .if1 .taken)) refl
+ring : (c : tie.Else1) → let a = c .before .before .before .before .args in isRing (a .channel .now) (a .first) (a .waiting) ≡ true
+ring c = sym (c .before .is-ring .ensures) ∙ not-false _ (c .if1 .left)
 
-returns-2 : tie.Need-returns-2
-unfolding pokeIn
-returns-2 c = rw ((sym (c .before .before .is-ring .ensures) ∙ not-false _ (c .before .if1 .left)), le-leb _ _ (c .if2 .taken)) refl
-
-add-at : tie.Need-add-at
-add-at c =
-    let a = c .before .before .before .before .before .args in let w = ringed (a .channel .now) (a .first) (a .waiting) (sym (c .before .before .is-ring .ensures) ∙ not-false _ (c .before .if1 .left)) in omega (arith, w .first)
-
-slice-write-channel : tie.Need-slice-write-channel
-slice-write-channel c =
-    let a = c .before .before .before .before .before .args in let w = ringed (a .channel .now) (a .first) (a .waiting) (sym (c .before .before .is-ring .ensures) ∙ not-false _ (c .before .if1 .left)) in omega (arith, w .first, w .room)
-
-returns-3 : tie.Need-returns-3
-unfolding pokeIn
-returns-3 c = rw ((sym (c .before .before .is-ring .ensures) ∙ not-false _ (c .before .if1 .left)), lt-leb _ _ (c .if2 .left)) refl
+within : (c : tie.Else1) → let a = c .before .before .before .before .args in Ringed (a .channel .now) (a .first) (a .waiting)
+within c = ringed _ _ _ (ring c)
 
 pub poke-spec : {M : Type 1} → statement M
+unfolding pokeIn
 poke-spec =
     tie.close
-    (tie.spec
-    (λ c κs. search needs)
-    (λ c. search needs)
-    returns
-    (λ c. search needs)
-    returns-2
-    add-at
-    (λ c. search needs)
-    slice-write-channel
-    (λ c. search needs)
-    (λ c. search needs)
-    returns-3)
+    (tie.spec (search) (λ c. search needs) (λ c. rw (sym (c .before .is-ring .ensures) ∙ not-true _ (c .if1 .taken)))
+    (λ c. search needs) (λ c. rw (ring (c .before), le-leb _ _ (c .if2 .taken)))
+    (λ c. omega (arith, within (c .before))) (λ c. search needs)
+    (λ c. omega (arith, within (c .before))) (λ c. search needs) (λ c. search needs)
+    (λ c. rw (ring (c .before), lt-leb _ _ (c .if2 .left))))

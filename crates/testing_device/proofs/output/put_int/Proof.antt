@@ -25,12 +25,4 @@ returns c =
 pub put-int-spec : {M : Type 1} → statement M
 put-int-spec =
     tie.close
-    (tie.spec
-    (λ c κs. search needs)
-    (λ c. search needs)
-    (λ c. search needs)
-    (λ c. search needs)
-    part-place-end
-    (λ c κs. search needs)
-    (λ c. search needs)
-    returns)
+    (tie.spec (λ c κs. search needs) (λ c. search needs) (λ c. search needs) (λ c. search needs) part-place-end (λ c κs. search needs) (λ c. search needs) returns)

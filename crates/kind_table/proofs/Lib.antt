@@ -1,0 +1,2 @@
+-- The families of the table of kinds.
+pub mod Families

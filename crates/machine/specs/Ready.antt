@@ -1,0 +1,21 @@
+-- A patch that is read and a state that is well formed, and where its steps end. Assumes nothing.
+use mathlib.Core.Path.{_≡_}
+use mathlib.Core.List.{List}
+use Prim.Native.Nat.{ℕ}
+use Rattle.ops.specs.Patch.{patchOf}
+use Rattle.machine_step.specs.Held.{Held, Code}
+use Rattle.bridge.specs.Decoded.{codeOf}
+use Rattle.bridge.specs.Fits.{Fits}
+use lib.Dec.{leb}
+use mathlib.Core.Bool.{Bool, _||_}
+use Rattle.machine_numbers.specs.declared.numbers.Numbers.{Numbers}
+
+-- the file s is good, x is what the machine reads of it, and c is well formed and has room
+pub record ReadyToRun (s input : List ℕ) (x : Code) (c : Held) : Type 0 where
+  pub good : patchOf s .number ≡ 0
+  pub read : x ≡ codeOf s
+  pub fits : Fits s input c
+
+-- halted, or past the last of n ops
+unfoldable pub overOf : Numbers → ℕ → Bool
+overOf p n = p .halted || leb n (p .position)

@@ -1,0 +1,92 @@
+-- The machine's numbers with one of them changed, and what each family of ops may change. Assumes nothing.
+use mathlib.Core.Bool.{true}
+use mathlib.Core.List.{List}
+use Prim.Native.Nat.{ℕ, _+_}
+use Rattle.machine_numbers.specs.declared.numbers.Numbers.{Numbers}
+use Rattle.machine_numbers.specs.declared.numbers.OpAnswer.{OpAnswer}
+
+abbrev pub atPosition : Numbers → ℕ → Numbers
+atPosition p v = record { depth = p .depth; saved = p .saved; pointer = p .pointer; position = v; length = p .length; lanes = p .lanes; functions = p .functions; first = p .first; waiting = p .waiting; taken = p .taken; written = p .written; halted = p .halted }
+
+abbrev pub atPointer : Numbers → ℕ → Numbers
+atPointer p v = record { depth = p .depth; saved = p .saved; pointer = v; position = p .position; length = p .length; lanes = p .lanes; functions = p .functions; first = p .first; waiting = p .waiting; taken = p .taken; written = p .written; halted = p .halted }
+
+abbrev pub ofLength : Numbers → ℕ → Numbers
+ofLength p v = record { depth = p .depth; saved = p .saved; pointer = p .pointer; position = p .position; length = v; lanes = p .lanes; functions = p .functions; first = p .first; waiting = p .waiting; taken = p .taken; written = p .written; halted = p .halted }
+
+abbrev pub ofLanes : Numbers → ℕ → Numbers
+ofLanes p v = record { depth = p .depth; saved = p .saved; pointer = p .pointer; position = p .position; length = p .length; lanes = v; functions = p .functions; first = p .first; waiting = p .waiting; taken = p .taken; written = p .written; halted = p .halted }
+
+abbrev pub ofDepth : Numbers → ℕ → Numbers
+ofDepth p v = record { depth = v; saved = p .saved; pointer = p .pointer; position = p .position; length = p .length; lanes = p .lanes; functions = p .functions; first = p .first; waiting = p .waiting; taken = p .taken; written = p .written; halted = p .halted }
+
+abbrev pub ofSaved : Numbers → ℕ → Numbers
+ofSaved p v = record { depth = p .depth; saved = v; pointer = p .pointer; position = p .position; length = p .length; lanes = p .lanes; functions = p .functions; first = p .first; waiting = p .waiting; taken = p .taken; written = p .written; halted = p .halted }
+
+abbrev pub ofFunctions : Numbers → ℕ → Numbers
+ofFunctions p v = record { depth = p .depth; saved = p .saved; pointer = p .pointer; position = p .position; length = p .length; lanes = p .lanes; functions = v; first = p .first; waiting = p .waiting; taken = p .taken; written = p .written; halted = p .halted }
+
+abbrev pub ofRing : Numbers → ℕ → ℕ → Numbers
+ofRing p f w = record { depth = p .depth; saved = p .saved; pointer = p .pointer; position = p .position; length = p .length; lanes = p .lanes; functions = p .functions; first = f; waiting = w; taken = p .taken; written = p .written; halted = p .halted }
+
+abbrev pub ofTaken : Numbers → ℕ → Numbers
+ofTaken p v = record { depth = p .depth; saved = p .saved; pointer = p .pointer; position = p .position; length = p .length; lanes = p .lanes; functions = p .functions; first = p .first; waiting = p .waiting; taken = v; written = p .written; halted = p .halted }
+
+abbrev pub ofWritten : Numbers → ℕ → Numbers
+ofWritten p v = record { depth = p .depth; saved = p .saved; pointer = p .pointer; position = p .position; length = p .length; lanes = p .lanes; functions = p .functions; first = p .first; waiting = p .waiting; taken = p .taken; written = v; halted = p .halted }
+
+abbrev pub halt : Numbers → Numbers
+halt p = record { depth = p .depth; saved = p .saved; pointer = p .pointer; position = p .position; length = p .length; lanes = p .lanes; functions = p .functions; first = p .first; waiting = p .waiting; taken = p .taken; written = p .written; halted = true }
+
+abbrev pub next : Numbers → Numbers
+next p = atPosition p (p .position + 1)
+
+-- what an op answers: 0, or the refusal's number, and the numbers after it
+abbrev pub answered : ℕ → Numbers → OpAnswer
+answered n p = record { number = n; numbers = p }
+
+-- the ops that steer: calls and function table
+pub record Steered : Type 0 where
+  pub answer : OpAnswer
+  pub calls : List ℕ
+  pub table : List ℕ
+
+abbrev pub steered : OpAnswer → List ℕ → List ℕ → Steered
+steered h cs ts = record { answer = h; calls = cs; table = ts }
+
+-- the ops that write one list
+pub record OneList : Type 0 where
+  pub answer : OpAnswer
+  pub list : List ℕ
+
+abbrev pub oneList : OpAnswer → List ℕ → OneList
+oneList h l = record { answer = h; list = l }
+
+-- the op that changes lanes and cells
+pub record Swapped : Type 0 where
+  pub answer : OpAnswer
+  pub register : List ℕ
+  pub tape : List ℕ
+
+abbrev pub swapped : OpAnswer → List ℕ → List ℕ → Swapped
+swapped h g t = record { answer = h; register = g; tape = t }
+
+-- the ops of the tape: saved pointers, register and cells
+pub record Taped : Type 0 where
+  pub answer : OpAnswer
+  pub refs : List ℕ
+  pub register : List ℕ
+  pub tape : List ℕ
+
+abbrev pub taped : OpAnswer → List ℕ → List ℕ → List ℕ → Taped
+taped h rs g t = record { answer = h; refs = rs; register = g; tape = t }
+
+-- the ops of the device: register, channel and output
+pub record Told : Type 0 where
+  pub answer : OpAnswer
+  pub register : List ℕ
+  pub channel : List ℕ
+  pub output : List ℕ
+
+abbrev pub told : OpAnswer → List ℕ → List ℕ → List ℕ → Told
+told h g ch o = record { answer = h; register = g; channel = ch; output = o }

@@ -1,9 +1,0 @@
--- `check::from_of` meets its contract. Assumes nothing.
-use Rattle.patch_check.specs.Rows.{fromOf}
-use borrow.Author.Tests.{eq-eqb, ne-eqb}
-use Rattle.patch_check.proofs.check.from_of.Statement.{statement}
-use Rattle.patch_check.proofs.check.from_of.Tie as tie
-
-pub from-of-spec : {M : Type 1} → statement M
-unfolding fromOf
-from-of-spec = tie.close (tie.spec (λ c. simp (eq-eqb _ _ (c .if1 .taken))) (λ c. simp (ne-eqb _ _ (c .if1 .left))))
