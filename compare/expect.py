@@ -7,15 +7,20 @@
 A case is settled where the Rust agrees to the last step, or where it agrees up to a refusal and does there what the document says.
 What is not settled is a disagreement: a wrong reading, or a difference that is still to be listed.
 """
+import atexit
 import os
+import shutil
 import subprocess
 import sys
+import tempfile
 
+HERE = os.path.dirname(os.path.abspath(__file__))
+sys.path.insert(0, os.path.join(HERE, "..", "tools"))
+import command
 import generate
 import lists
 from model01 import AND, CALL, DEREF, DIV, GET, OR, PEEK, REM
 
-HERE = os.path.dirname(os.path.abspath(__file__))
 AGREE = "agree with the Rust to the end"
 PORT = "answers of the port alone (file, 37, 40, check)"
 ROOM = "beyond the judge's room"
@@ -47,7 +52,15 @@ def name(sort, number, verdict, kind):
 
 
 def build():
-    return subprocess.run([os.path.join(HERE, "build")], stdout=subprocess.PIPE, check=True, text=True).stdout.strip()
+    """The judge's path. It is built in COMPARE_OUT, or in a folder that is there until the command ends."""
+    out = os.environ.get("COMPARE_OUT")
+    if not out:
+        out = tempfile.mkdtemp()
+        atexit.register(shutil.rmtree, out, ignore_errors=True)
+    made = subprocess.run([os.path.join(HERE, "build")], stdout=subprocess.PIPE, text=True, env=dict(os.environ, COMPARE_OUT=out))
+    if made.returncode:
+        sys.exit(made.returncode)
+    return made.stdout.strip()
 
 
 def judged(judge, data, *flags, timeout=None):
@@ -120,4 +133,4 @@ def main(args):
 
 
 if __name__ == "__main__":
-    main(sys.argv[1:])
+    command.run(main)

@@ -7,10 +7,13 @@
     generate.py smallest               the smallest input of each row of docs/DIFFERENCES.md, in its order
 """
 import itertools
+import os
 import random
 import struct
 import sys
 
+sys.path.insert(0, os.path.join(os.path.dirname(os.path.abspath(__file__)), "..", "tools"))
+import command
 import model01
 from lists import CHECK, FLATTEN, FRESH, JOIN, RUN, SLICES, Answer, Case, Machine, record, write
 from model01 import (ALLOC, AND, CALL, CELL_OPS, COMMENT, COUNTED, DEREF, ELSE, END, FREE, FUNCTION, GET, GEZ, IF, LANE_OPS, LOAD,
@@ -879,4 +882,4 @@ def main(args):
 
 
 if __name__ == "__main__":
-    main(sys.argv[1:])
+    command.run(main)

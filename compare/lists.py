@@ -4,8 +4,12 @@
     lists.py show FILE [CASE ..]     the cases in words, all of them or those with these numbers (from 0)
     lists.py count FILE              how many cases of each sort and expected number
 """
+import os
 import struct
 import sys
+
+sys.path.insert(0, os.path.join(os.path.dirname(os.path.abspath(__file__)), "..", "tools"))
+import command
 
 RUN, FRESH, JOIN, FLATTEN, CHECK = range(5)
 SORTS = ["run", "fresh run", "join", "flatten", "check"]
@@ -291,4 +295,4 @@ def main(args):
 
 
 if __name__ == "__main__":
-    main(sys.argv[1:])
+    command.run(main)

@@ -7,9 +7,11 @@ import os
 import sys
 import types
 
+HERE = os.path.dirname(os.path.abspath(__file__))
+sys.path.insert(0, os.path.join(HERE, "..", "tools"))
+import command
 import lists
 
-HERE = os.path.dirname(os.path.abspath(__file__))
 # what is wrong, the line of model01.py that says it right, and the wrong one
 READINGS = [
     ("End goes back to test the While again", "                m.position = partner\n", "                m.position = partner - 1\n"),
@@ -93,7 +95,9 @@ def finds(wrong, c, data):
         return True
 
 
-def main():
+def main(args):
+    if args:
+        sys.exit(__doc__)
     sys.setrecursionlimit(20000)
     cases = []
     for name in ("replay", "shapes"):
@@ -108,4 +112,4 @@ def main():
 
 
 if __name__ == "__main__":
-    main()
+    command.run(main)

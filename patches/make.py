@@ -13,6 +13,8 @@ import struct
 import sys
 
 HERE = pathlib.Path(__file__).resolve().parent
+sys.path.insert(0, str(HERE.parent / "tools"))
+import command  # noqa: E402
 
 # In the order of document 000's CoreOp, from kind 0, and of its StandardOp, from kind 256. What follows the name: no word, a
 # lane count, values (i64 or f64), an i64, an i64 and a lane count, or a mode.
@@ -81,23 +83,14 @@ def assemble(text):
 
 
 def main(args):
+    if args not in ([], ["-"], ["--check"]):
+        sys.exit(__doc__)
     if args == ["-"]:
         sys.stdout.buffer.write(assemble(sys.stdin.read()))
         return 0
-    stale = []
-    for text in sorted(HERE.glob("*.txt")):
-        patch = assemble(text.read_text())
-        file = text.with_suffix(".patch")
-        if args != ["--check"]:
-            file.write_bytes(patch)
-        elif not file.exists() or file.read_bytes() != patch:
-            stale.append(file.name)
-    for name in stale:
-        print("%s is not what its text gives" % name)
-    return 1 if stale else 0
+    made = {text.with_suffix(".patch").name: assemble(text.read_text()) for text in sorted(HERE.glob("*.txt"))}
+    return command.keep(HERE, made, args, "%d patches" % len(made))
 
 
 if __name__ == "__main__":
-    if sys.argv[1:] not in ([], ["-"], ["--check"]):
-        sys.exit(__doc__)
-    sys.exit(main(sys.argv[1:]))
+    command.run(main)

@@ -19,7 +19,8 @@ import struct
 import sys
 
 ROOT = pathlib.Path(__file__).resolve().parent.parent
-sys.path[:0] = [str(ROOT / "compare"), str(ROOT / "patches")]
+sys.path[:0] = [str(ROOT / "tools"), str(ROOT / "compare"), str(ROOT / "patches")]
+import command  # noqa: E402
 import lists  # noqa: E402
 import model01  # noqa: E402
 from make import KINDS, assemble_op  # noqa: E402
@@ -263,6 +264,8 @@ def cases(examples):
 
 
 def main(args):
+    if args not in ([], ["--check"], ["--list"]):
+        sys.exit(__doc__)
     text = GUIDE.read_text()
     made, examples, lacks = filled(text)
     for lack in lacks:
@@ -283,6 +286,4 @@ def main(args):
 
 
 if __name__ == "__main__":
-    if sys.argv[1:] not in ([], ["--check"], ["--list"]):
-        sys.exit(__doc__)
-    sys.exit(main(sys.argv[1:]))
+    command.run(main)

@@ -1,20 +1,23 @@
 #!/usr/bin/env python3
 """Makes lists/replay.list and lists/shapes.list. Each case is put to the Rust first, and none is stored that is not settled.
 
-    compare/make-lists        the same lists at each run
+    make.py             writes the lists, the same at each run
+    make.py --check     says which of them is not what is made here, and writes nothing
+
+RUST_SRC is the folder that holds the Rust's src/ (compare/README.md).
 """
 import itertools
-import os
+import pathlib
 import sys
 
-HERE = os.path.dirname(os.path.abspath(__file__))
-ROOT = os.path.dirname(HERE)
-sys.path.insert(0, HERE)
-import expect
-import generate
-import lists
-import model01
-import plant
+HERE = pathlib.Path(__file__).resolve().parent
+sys.path[:0] = [str(HERE.parent / "tools"), str(HERE.parent / "compare")]
+import command  # noqa: E402
+import expect  # noqa: E402
+import generate  # noqa: E402
+import lists  # noqa: E402
+import model01  # noqa: E402
+import plant  # noqa: E402
 
 # of every style of random case so many, none of more bytes than this; full stacks are longer
 STYLES = {"soup": 130, "bracketed": 150, "checked": 170, "soup floats": 60, "bracketed floats": 60, "checked floats": 80, "mid-state": 260,
@@ -38,7 +41,7 @@ def settled(judge, cases):
     seen = set()
     for c, bytes_, told in zip(cases, data, expect.judged(judge, b"".join(data))):
         if expect.name(*told[:4]) is None:
-            sys.exit("make-lists: the judge says %s: %s" % (told[2], lists.show(c)))
+            sys.exit("lists/make.py: the judge says %s: %s" % (told[2], lists.show(c)))
         if bytes_ not in seen:
             seen.add(bytes_)
             yield c, bytes_, told[2]
@@ -96,13 +99,13 @@ def replay_list(judge):
                 keep(c, data)
     for number in NUMBERS:
         if numbers.get(number, 0) < OFTEN:
-            sys.exit("make-lists: number %d is met %d times" % (number, numbers.get(number, 0)))
+            sys.exit("lists/make.py: number %d is met %d times" % (number, numbers.get(number, 0)))
     for s, wanted in STYLES.items():
         if styles.get(s, 0) < wanted:
-            sys.exit("make-lists: only %d of style %s" % (styles.get(s, 0), s))
+            sys.exit("lists/make.py: only %d of style %s" % (styles.get(s, 0), s))
     for kind in generate.KINDS:
         if kinds.get(kind, 0) < 10:
-            sys.exit("make-lists: kind %d is met %d times" % (kind, kinds.get(kind, 0)))
+            sys.exit("lists/make.py: kind %d is met %d times" % (kind, kinds.get(kind, 0)))
     return list(kept)
 
 
@@ -138,18 +141,18 @@ def shapes_list(judge):
             changed[c.sort] += moved
             kept.append(data)
     if min(written.values()) < SHAPES:
-        sys.exit("make-lists: too few shapes")
+        sys.exit("lists/make.py: too few shapes")
     return kept
 
 
-def main():
+def main(args):
+    if args not in ([], ["--check"]):
+        sys.exit(__doc__)
     judge = expect.build()
-    os.makedirs(os.path.join(ROOT, "lists"), exist_ok=True)
-    for name, kept in (("replay", replay_list(judge)), ("shapes", shapes_list(judge))):
-        with open(os.path.join(ROOT, "lists", name + ".list"), "wb") as f:
-            f.write(b"".join(kept))
-        print("lists/%s.list: %d cases, %d bytes" % (name, len(kept), sum(map(len, kept))))
+    kept = {"replay.list": replay_list(judge), "shapes.list": shapes_list(judge)}
+    words = "\n".join("lists/%s: %d cases, %d bytes" % (name, len(cases), sum(map(len, cases))) for name, cases in kept.items())
+    return command.keep(HERE, {name: b"".join(cases) for name, cases in kept.items()}, args, words)
 
 
 if __name__ == "__main__":
-    main()
+    command.run(main)
