@@ -1,8 +1,26 @@
--- The fresh machine. Assumes nothing.
+-- The limits of the machine, and the fresh machine. Assumes nothing.
 use mathlib.Core.Bool.{false}
+use Prim.Native.Nat.{_-_, _^_}
 use lib.ListN.{replicate}
 use Rattle.basics.specs.Limits as limit
+use Rattle.machine.specs.declared.machine.Capacities.{Capacities}
 use Rattle.machine.specs.declared.machine.Machine.{Machine}
+
+-- "These limits belong to the machine's type"; "budget u32"
+abbrev pub limitsOf : Capacities
+limitsOf =
+    record {
+      file = limit.mostBytes;
+      ops = limit.mostOps;
+      marks = limit.mostMarks;
+      lanes = limit.lanes;
+      calls = limit.depth;
+      refs = limit.depth;
+      channel = limit.depth;
+      pointer = limit.farthest;
+      length = limit.longest;
+      budget = 2 ^ 32 - 1;
+    }
 
 -- "Fresh: 1,024 zero lanes; pointer, position and counted length 0; stacks, table and channel empty; input place and output count 0; not halted"
 unfoldable pub freshOf : Machine

@@ -1,6 +1,6 @@
 // The machine: its stacks and its numbers, with its limits and its fresh state; and what its calls leave.
 ghost use mathlib.Core.Path.{_≡_};
-ghost use Rattle.machine.specs.Fresh.{freshOf};
+ghost use Rattle.machine.specs.Fresh.{limitsOf, freshOf};
 use answers::run::Answer;
 use machine_numbers::numbers::Numbers;
 
@@ -8,6 +8,20 @@ pub struct Machine {
     pub calls: [u16; Numbers::CALLS],
     pub refs: [u32; Numbers::REFS],
     pub numbers: Numbers,
+}
+
+// The limits, each the last accepted.
+pub struct Capacities {
+    pub file: usize,
+    pub ops: usize,
+    pub marks: usize,
+    pub lanes: usize,
+    pub calls: usize,
+    pub refs: usize,
+    pub channel: usize,
+    pub pointer: usize,
+    pub length: usize,
+    pub budget: u32,
 }
 
 pub struct Stepped {
@@ -41,6 +55,24 @@ impl Machine {
     pub const LENGTH: usize = Numbers::LENGTH;
 
     pub const BUDGET: u32 = 0xffffffff;
+
+    // What the constants are.
+    pub fn limits() -> Capacities
+        ensures { λ r. ⌜ r ≡ limitsOf ⌝ }
+    {
+        Capacities {
+            file: Machine::FILE,
+            ops: Machine::OPS,
+            marks: Machine::MARKS,
+            lanes: Machine::LANES,
+            calls: Machine::CALLS,
+            refs: Machine::REFS,
+            channel: Machine::CHANNEL,
+            pointer: Machine::POINTER,
+            length: Machine::LENGTH,
+            budget: Machine::BUDGET,
+        }
+    }
 
     pub fn fresh() -> Machine
         ensures { λ r. ⌜ r ≡ freshOf ⌝ }
