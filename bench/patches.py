@@ -5,7 +5,7 @@ import struct
 import sys
 
 sys.path.insert(0, os.path.join(os.path.dirname(os.path.abspath(__file__)), "..", "compare"))
-from generate import op
+from generate import from_the_last, in_order, op
 from model01 import (ADD, ADDF, AND, ARSH, BAND, BNOT, BOR, BXOR, CALL, DEC, DEREF, DIV, DIVF, ELSE, END, FUNCTION, GET, GEZ, GEZF, IF,
                      INC, INDEX, LOAD, LRSH, LSH, MOVE, MUL, MULF, NAND, NEG, NEGF, NOT, OFFSET, OR, PUT, REFER, REM, REMF, RETURN, SET,
                      SETF, STORE, SUB, SUBF, SWAP, TOFLOAT, TOINT, WHERE, WHILE)
@@ -166,6 +166,8 @@ def runs():
     yield "nested brackets", brackets(), [], 1
     yield "calls and returns", calls(), [], 1
     yield "moves, loads, stores", moves(), [], 8
+    yield "256 routines, in order", in_order(256), [], 0
+    yield "256 routines, last first", from_the_last(256), [], 0
     yield "deref chains", derefs(), [], 2
     for n in (1, 8, 64, 1024):
         yield "integer lanes, %d" % n, int_lanes(n), [], 4

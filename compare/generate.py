@@ -718,6 +718,44 @@ def boundary():
 
 
     yield from telling()
+    yield from openings()
+
+
+# ---- routines opened in an order
+
+def in_order(n):
+    """n routines, opened from the first to the last."""
+    return [op(FUNCTION), op(END)] * n
+
+
+def from_the_last(n):
+    """n routines, a power of two, opened from the last to the first: a loop of two turns, of which the first opens the later half. The turn stands in
+    the cell after the pointer, 0 before and after."""
+    if n == 1:
+        return in_order(1)
+    half = from_the_last(n // 2)
+    return ([op(MOVE, 1), op(SET, 1), op(WHILE), op(LOAD, 1), op(IF)] + half + [op(ELSE)] + half
+            + [op(END), op(LOAD, 1), op(model01.NOT, 1), op(STORE, 1), op(END), op(MOVE, -1)])
+
+
+def openings():
+    """Routines opened in order, from the last to the first, and by calls; then marks entered in a table that is full or lacks one entry."""
+    for n in (2, 16, 256):
+        yield fresh(patch(*in_order(n)), budget=1000)
+        yield fresh(patch(*from_the_last(n)), tape=16, budget=10_000)
+        # a call finds a mark by counting as long as the table has no entry of that number
+        for order in (range(n), range(n - 1, n // 2 - 1, -1)):
+            calls = [op(SET, k) + op(CALL) for k in order]
+            yield fresh(patch(*calls, op(RETURN), (op(FUNCTION) + op(RETURN) + op(END)) * n), budget=2000)
+    for lacking in (0, 1, 127, 254, 255, None):
+        for at in (0, 128, 255) if lacking is None else (lacking,):
+            c = state(patch(*in_order(256), op(SET, 255), op(CALL)), budget=4)
+            m = c.machine
+            places = [2 * k for k in range(256) if k != lacking]
+            # the entry after the last is lent too, and keeps its value
+            c.table = places + [7] * (257 - len(places))
+            m.functions, m.position = len(places), 2 * at
+            yield c
 
 
 def telling():

@@ -78,6 +78,9 @@ def replay_list(judge):
     for c, data in edges:
         if c.sort == lists.CHECK and c.answer.number == 0 and (len(c.patch) == 65536 or c.answer.place == 4096):
             keep(c, data)
+    # routines opened in both orders, and the table that is full
+    for c, data, _ in settled(judge, generate.openings()):
+        keep(c, data)
     for c, data, _ in settled(judge, generate.randoms(2026, 16_000)):
         s = style(c)
         if len(data) < (FULL if s == "boundary" else LONG) and styles.get(s, 0) < STYLES.get(s, 0):

@@ -1,3 +1,4 @@
 pub mod Partners
 pub mod Scans
 pub mod Tables
+pub mod Moves

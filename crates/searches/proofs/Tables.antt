@@ -1,202 +1,226 @@
--- The function table: a place that it has is entered by leaving it alone, another by putting it last and moving it down. Assumes nothing.
-use mathlib.Core.Path.{_≡_, _∙_, refl, ap, sym, subst}
-use mathlib.Core.Bool.{Bool, true, false, true≢false}
+-- The function table: a search by halves finds where a place stands or belongs, and there it is entered; the entries above it move up by one and the
+-- others stay. Assumes nothing.
+use mathlib.Core.Path.{_≡_, _∙_, refl, ap, sym}
+use mathlib.Core.Bool.{true, false}
 use mathlib.Core.List.{List, [], _∷_, _++_, append-assoc}
 use Prim.Native.Nat.{ℕ, zero, suc, _+_, _≤_, _<_}
 use native.Mathlib.Omega.{arith}
 use native.Mathlib.Numerals.{add-one}
 use lib.Dec.{ltb, eqb}
-use lib.ListN.{length, getD, set, take, drop, length-append, length-set, take-append-drop}
-use lib.Seq.{take-suc, length-take-le, getD-append-seam, getD-take, set-split}
+use lib.ListN.{length, getD, set, take, drop, length-append, take-append-drop, List·getD-append, drop-of-length-le}
+use lib.Seq.{take-suc, drop-cons, append-snoc, length-take-le, getD-take, take-take, set-at}
 use borrow.Author.Tests.{lt-ltb, le-ltb, eq-eqb, ne-eqb, ltb-true, ltb-false, eqb-true, eqb-false}
 use Rattle.basics.specs.Pick.{pick}
+use Rattle.basics.proofs.Clash.{clash}
 use Rattle.basics.proofs.Tests.{byCase}
 use Rattle.byte_fields.specs.Storage.{fill}
 use Rattle.machine_model.specs.Step.{enter}
 use Rattle.machine_model.specs.Formed.{Each, Rising}
-use Rattle.machine_model.proofs.Each.{each-at}
-use Rattle.searches.specs.Found.{hasIn, siftOf, enteredIn, countedIn}
+use Rattle.machine_model.proofs.Each.{each-at, each-to}
+use Rattle.searches.specs.Found.{below, above, soughtIn, enteredIn, countedIn}
+use Rattle.searches.specs.declared.table.Sought.the-variants.{There, Missing}
 
--- ---- a turn of the search, and of the last place's way down
+-- ---- a place v and a table that rises
 
-pub has-none : (v i : ℕ) (ts : List ℕ) → i ≡ 0 → false ≡ hasIn v i ts
-unfolding hasIn
-has-none v i ts z = rw z refl
+module _ (v : ℕ) where
+  below-none : (qs : List ℕ) → Each (λ q. v ≤ q) qs → below v qs ≡ 0
+  unfolding below
+  below-none [] a = refl
+  below-none (q ∷ qs) a = rw (le-ltb q v (a .0)) (below-none qs (a .1))
 
-pub has-here : (v i j : ℕ) (ts : List ℕ) → i ≡ j + 1 → getD ts j 0 ≡ v → true ≡ hasIn v i ts
-unfolding hasIn pick
-has-here v i j ts s e = rw (s, add-one j, eq-eqb (getD ts j 0) v e) refl
+  above-all : (qs : List ℕ) → Each (λ q. v < q) qs → above v qs ≡ length qs
+  unfolding above
+  above-all [] a = refl
+  above-all (q ∷ qs) a = rw (lt-ltb v q (a .0)) (ap suc (above-all qs (a .1)))
 
-pub has-on : (v i j : ℕ) (ts : List ℕ) → i ≡ j + 1 → (getD ts j 0 ≡ v → ⊥) → hasIn v j ts ≡ hasIn v i ts
-unfolding hasIn pick
-has-on v i j ts s e = rw (s, add-one j, ne-eqb (getD ts j 0) v e) refl
+  -- the entries after one that is not below v are above v
+  after : (q : ℕ) (qs : List ℕ) → Rising (q ∷ qs) → v ≤ q → Each (λ y. v < y) qs
+  after q qs r l = each-to (λ y. q < y) (λ y. v < y) (λ y h. omega arith) qs (r .0)
 
-pub sift-least : (i : ℕ) (ts : List ℕ) → i ≡ 0 → ts ≡ siftOf i ts
-unfolding siftOf
-sift-least i ts z = rw z refl
+  from : (q : ℕ) (qs : List ℕ) → Rising (q ∷ qs) → v ≤ q → Each (λ y. v ≤ y) (q ∷ qs)
+  from q qs r l = (l, each-to (λ y. v < y) (λ y. v ≤ y) (λ y h. omega arith) qs (after q qs r l))
 
-pub sift-stop : (i j : ℕ) (ts : List ℕ) → i ≡ j + 1 → getD ts j 0 < getD ts i 0 → ts ≡ siftOf i ts
-unfolding siftOf pick
-sift-stop i j ts s h =
-    let t : ltb (getD ts j 0) (getD ts (suc j) 0) ≡ true = rw (← add-one j, ← s) (lt-ltb (getD ts j 0) (getD ts i 0) h) in
-    rw (s, add-one j, t) refl
+  -- an entry is below v exactly where its number is less than the number of those below v
+  data Side (x k b : ℕ) : Type 0 where
+    lower : x < v → k < b → Side x k b
+    upper : v ≤ x → b ≤ k → Side x k b
 
-pub sift-on : (i j : ℕ) (ts : List ℕ) → i ≡ j + 1 → getD ts i 0 ≤ getD ts j 0 → siftOf j (set (set ts i (getD ts j 0)) j (getD ts i 0)) ≡ siftOf i ts
-unfolding siftOf pick
-sift-on i j ts s h =
-    let t : ltb (getD ts j 0) (getD ts (suc j) 0) ≡ false = rw (← add-one j, ← s) (le-ltb (getD ts j 0) (getD ts i 0) h) in
-    rw (s, add-one j, t) refl
+  side : (qs : List ℕ) → Rising qs → (k : ℕ) → k < length qs → Side (getD qs k 0) k (below v qs)
+  unfolding below
+  side [] r k h = absurd (omega arith)
+  side (q ∷ qs) r k h = byCase (ltb q v) (low k h (side qs (r .1))) (λ e.
+      let all = from q qs r (ltb-false q v e) in
+      upper (each-at (λ y. v ≤ y) (q ∷ qs) k h all) (omega (arith, below-none (q ∷ qs) all)))
+    where
+      more : {x k b : ℕ} → Side x k b → Side x (suc k) (suc b)
+      more (lower l h) = lower l (omega arith)
+      more (upper l h) = upper l (omega arith)
 
--- ---- lists that rise
+      low : (k : ℕ) → k < length (q ∷ qs) → ((j : ℕ) → j < length qs → Side (getD qs j 0) j (below v qs)) → ltb q v ≡ true → Side (getD (q ∷ qs) k 0) k (below v (q ∷ qs))
+      low zero h rest e = rw e (lower (ltb-true q v e) (omega arith))
+      low (suc k) h rest e = rw e (more (rest k (omega arith)))
 
-each-front : (P : ℕ → Type 0) (bs : List ℕ) (a : ℕ) → Each P (bs ++ (a ∷ [])) → Each P bs
-each-front P [] a e = tt
-each-front P (b ∷ bs) a e = (e .0, each-front P bs a (e .1))
+  -- of b entries below v and a above it: either v stands after those below, or it belongs there
+  data Known (qs : List ℕ) (b a : ℕ) : Type 0 where
+    stands : b + suc a ≡ length qs → getD qs b 0 ≡ v → enter v qs ≡ qs → Known qs b a
+    belongs : b + a ≡ length qs → (b < length qs → v < getD qs b 0) → enter v qs ≡ take b qs ++ (v ∷ drop b qs) → Known qs b a
 
-each-last : (P : ℕ → Type 0) (bs : List ℕ) (a : ℕ) → Each P (bs ++ (a ∷ [])) → P a
-each-last P [] a e = e .0
-each-last P (b ∷ bs) a e = each-last P bs a (e .1)
+  known : (qs : List ℕ) → Rising qs → Known qs (below v qs) (above v qs)
+  unfolding below above enter
+  known [] r = belongs refl (λ h. absurd (omega arith)) refl
+  known (q ∷ qs) r =
+      byCase (ltb q v) (λ e. let l : q < v = ltb-true q v e in rw (e, le-ltb v q (omega arith)) (on l (known qs (r .1)))) (λ e.
+      let l : v ≤ q = ltb-false q v e in
+      let none = below-none (q ∷ qs) (from q qs r l) in
+      let all = above-all qs (after q qs r l) in
+      byCase (eqb q v)
+      (λ f. let is : q ≡ v = eqb-true q v f in
+      stands (rw (le-ltb v q (omega arith)) (omega arith)) (rw none is) (rw (le-ltb v q (omega arith), eq-eqb v q (sym is)) refl))
+      (λ f. let m : v < q = apart l (eqb-false q v f) in
+      belongs (rw (lt-ltb v q m) (omega arith)) (λ h. rw none m) (rw (none, lt-ltb v q m) refl)))
+    where
+      apart : v ≤ q → (q ≡ v → ⊥) → v < q
+      apart l n = omega arith
 
-rising-front : (bs : List ℕ) (a : ℕ) → Rising (bs ++ (a ∷ [])) → Rising bs
-rising-front [] a r = tt
-rising-front (b ∷ bs) a r = (each-front (λ y. b < y) bs a (r .0), rising-front bs a (r .1))
+      past : q < v → enter v (q ∷ qs) ≡ q ∷ enter v qs
+      past l = rw (le-ltb v q (omega arith), ne-eqb v q (λ e. omega arith)) refl
 
--- ---- the model's `enter`
+      on : {b a : ℕ} → q < v → Known qs b a → Known (q ∷ qs) (suc b) a
+      on l (stands s g f) = stands (omega arith) g (past l ∙ ap (λ (z : List ℕ). q ∷ z) f)
+      on l (belongs s g f) = belongs (omega arith) (λ h. g (omega arith)) (past l ∙ ap (λ (z : List ℕ). q ∷ z) f)
 
--- a place that is there already
-enter-known : (qs : List ℕ) (i : ℕ) → Rising qs → i < length qs → enter (getD qs i 0) qs ≡ qs
-unfolding enter
-enter-known [] i r h = absurd (omega arith)
-enter-known (q ∷ qs) zero r h = rw (le-ltb q q (omega arith), eq-eqb q q refl) refl
-enter-known (q ∷ qs) (suc i) r h =
-    let b : q < getD qs i 0 = each-at (λ y. q < y) qs i (omega arith) (r .0) in
-    rw (le-ltb (getD qs i 0) q (omega arith), ne-eqb (getD qs i 0) q (λ e. omega arith)) (ap (λ (z : List ℕ). q ∷ z) (enter-known qs i (r .1) (omega arith)))
+-- ---- making room: the entries from the i-th to the n-th stand one place higher, and the i-th still where it stood
 
--- a place below the last one
-enter-below : (v a : ℕ) (bs : List ℕ) → v < a → enter v (bs ++ (a ∷ [])) ≡ enter v bs ++ (a ∷ [])
-unfolding enter
-enter-below v a [] h = rw (lt-ltb v a h) refl
-enter-below v a (b ∷ bs) h =
-    byCase (ltb v b) (λ e. rw e refl) (λ e.
-    byCase (eqb v b) (λ f. rw (e, f) refl) (λ f.
-    rw (e, f) (ap (λ (z : List ℕ). b ∷ z) (enter-below v a bs h))))
+unfoldable pub raised : ℕ → ℕ → List ℕ → List ℕ
+raised i n ts = take (suc i) ts ++ (drop i (take n ts) ++ drop (suc n) ts)
 
--- a place above the last one
-enter-above : (v a : ℕ) (bs : List ℕ) → Rising (bs ++ (a ∷ [])) → a < v → enter v (bs ++ (a ∷ [])) ≡ bs ++ (a ∷ v ∷ [])
-unfolding enter
-enter-above v a [] r h = rw (le-ltb v a (omega arith), ne-eqb v a (λ e. omega arith)) refl
-enter-above v a (b ∷ bs) r h =
-    let l : b < a = each-last (λ y. b < y) bs a (r .0) in
-    rw (le-ltb v b (omega arith), ne-eqb v b (λ e. omega arith)) (ap (λ (z : List ℕ). b ∷ z) (enter-above v a bs (r .1) h))
+module _ (n : ℕ) (ts : List ℕ) (h : n < length ts) where
+  whole : length (take n ts) ≡ n
+  whole = length-take-le n ts (omega arith)
 
--- ---- the way down ends where `enter` puts the place
+  pub room-begins : ts ≡ raised n n ts
+  unfolding raised
+  room-begins = rw (drop-of-length-le (take n ts) {i = n} (omega (arith, whole))) (sym (take-append-drop (suc n) ts))
 
-second : (bs cs : List ℕ) (a v : ℕ) → getD (bs ++ (a ∷ v ∷ cs)) (suc (length bs)) 0 ≡ v
-second [] cs a v = refl
-second (b ∷ bs) cs a v = second bs cs a v
+  -- the i-th place written anew
+  written : (i w : ℕ) (us : List ℕ) → i ≤ n → us ≡ raised i n ts → set us i w ≡ take i ts ++ (w ∷ (drop i (take n ts) ++ drop (suc n) ts))
+  unfolding raised
+  written i w us b e =
+      let l : length (take i ts) ≡ i = length-take-le i ts (omega arith) in
+      rw (e, take-suc ts i 0 (omega arith), append-snoc) (set-at (take i ts) (getD ts i 0) (drop i (take n ts) ++ drop (suc n) ts) w i l)
 
-swapped : (bs cs : List ℕ) (a v : ℕ) → set (set (bs ++ (a ∷ v ∷ cs)) (suc (length bs)) a) (length bs) v ≡ bs ++ (v ∷ a ∷ cs)
-swapped [] cs a v = refl
-swapped (b ∷ bs) cs a v = ap (λ (z : List ℕ). b ∷ z) (swapped bs cs a v)
+  pub room-goes : (i j : ℕ) (us : List ℕ) → i ≡ j + 1 → i ≤ n → us ≡ raised i n ts → set us i (getD us j 0) ≡ raised j n ts
+  unfolding raised
+  room-goes i j us s b e =
+      let m : length (take (suc i) ts) ≡ suc i = length-take-le (suc i) ts (omega arith) in
+      let read : getD us j 0 ≡ getD ts j 0 =
+      rw e (List·getD-append (take (suc i) ts) (drop i (take n ts) ++ drop (suc n) ts) 0 j (omega arith) ∙ getD-take (suc i) ts j 0 (omega arith)) in
+      let cut : drop j (take n ts) ≡ getD ts j 0 ∷ drop i (take n ts) =
+      rw (s, add-one j, ← getD-take n ts j 0 (omega arith)) (drop-cons (take n ts) j 0 (omega (arith, whole))) in
+      written i (getD us j 0) us b e ∙ rw (read, cut, s, add-one j) refl
 
-turn : (bs cs : List ℕ) (a v : ℕ) → siftOf (suc (length bs)) (bs ++ (a ∷ v ∷ cs)) ≡ pick (ltb a v) (bs ++ (a ∷ v ∷ cs)) (siftOf (length bs) (bs ++ (v ∷ a ∷ cs)))
-unfolding siftOf
-turn bs cs a v = rw (getD-append-seam bs a (v ∷ cs) 0, second bs cs a v, swapped bs cs a v) refl
-
-settled : (bs cs : List ℕ) (a v : ℕ) → Rising (bs ++ (a ∷ [])) → eqb a v ≡ false → siftOf (length bs) (bs ++ (v ∷ a ∷ cs)) ≡ enter v bs ++ (a ∷ cs) → siftOf (suc (length bs)) (bs ++ (a ∷ v ∷ cs)) ≡ enter v (bs ++ (a ∷ [])) ++ cs
-unfolding pick
-settled bs cs a v r n below =
-    turn bs cs a v
-    ∙ byCase (ltb a v)
-    (λ e. rw (e, enter-above v a bs r (ltb-true a v e)) (sym (append-assoc bs (a ∷ v ∷ []) cs)))
-    (λ e. let l : v ≤ a = ltb-false a v e in
-    let m : v < a = apart a v l (eqb-false a v n) in
-    rw (e, enter-below v a bs m) (below ∙ sym (append-assoc (enter v bs) (a ∷ []) cs)))
-  where
-    apart : (a v : ℕ) → v ≤ a → (a ≡ v → ⊥) → v < a
-    apart a v l n = omega arith
-
-has-not : (v j : ℕ) (ts : List ℕ) → hasIn v (suc j) ts ≡ false → (eqb (getD ts j 0) v ≡ false) × (hasIn v j ts ≡ false)
-unfolding hasIn pick
-has-not v j ts = by (eqb (getD ts j 0) v) (hasIn v j ts)
-  where
-    by : (b r : Bool) → pick b true r ≡ false → (b ≡ false) × (r ≡ false)
-    by true r e = absurd (true≢false e)
-    by false r e = (refl, e)
-
-sifted : (v i : ℕ) (us cs : List ℕ) → i ≤ length us → Rising (take i us) → hasIn v i us ≡ false → siftOf i (take i us ++ (v ∷ cs)) ≡ enter v (take i us) ++ cs
-unfolding siftOf enter
-sifted v zero us cs h r f = refl
-sifted v (suc j) us cs h r f =
-    let a = getD us j 0 in
-    let bs = take j us in
-    let l : length bs ≡ j = length-take-le j us (omega arith) in
-    let cut : take (suc j) us ≡ bs ++ (a ∷ []) = take-suc us j 0 (omega arith) in
-    let rise : Rising (bs ++ (a ∷ [])) = subst Rising cut r in
-    let below = sifted v j us (a ∷ cs) (omega arith) (rising-front bs a rise) (has-not v j us f .1) in
-    ap (λ (z : List ℕ). siftOf (suc j) (z ++ (v ∷ cs))) cut
-    ∙ ap (siftOf (suc j)) (append-assoc bs (a ∷ []) (v ∷ cs))
-    ∙ ap (λ (z : ℕ). siftOf (suc z) (bs ++ (a ∷ v ∷ cs))) (sym l)
-    ∙ settled bs cs a v rise (has-not v j us f .0) (ap (λ (z : ℕ). siftOf z (bs ++ (v ∷ a ∷ cs))) l ∙ below)
-    ∙ ap (λ (z : List ℕ). enter v z ++ cs) (sym cut)
-
-pub length-sift : (i : ℕ) (ts : List ℕ) → length (siftOf i ts) ≡ length ts
-unfolding siftOf pick
-length-sift zero ts = refl
-length-sift (suc i) ts =
-    byCase (ltb (getD ts i 0) (getD ts (suc i) 0)) (λ e. rw e refl) (λ e.
-    rw e
-    (length-sift i (set (set ts (suc i) (getD ts i 0)) i (getD ts (suc i) 0))
-    ∙ length-set (set ts (suc i) (getD ts i 0)) i (getD ts (suc i) 0)
-    ∙ length-set ts (suc i) (getD ts i 0)))
-
--- ---- the table with a place entered
+-- ---- the first n entries of ts
 
 module _ (v n : ℕ) (ts : List ℕ) (h : n ≤ length ts) (r : Rising (take n ts)) where
-  whole : length (take n ts) ≡ n
-  whole = length-take-le n ts h
+  all-of : length (take n ts) ≡ n
+  all-of = length-take-le n ts h
 
-  known : (m : ℕ) → m ≤ n → hasIn v m ts ≡ true → enter v (take n ts) ≡ take n ts
-  unfolding hasIn
-  known zero b e = absurd (true≢false (sym e))
-  known (suc j) b e =
-      byCase (eqb (getD ts j 0) v)
-      (λ q. let l = whole in
-      let is : getD (take n ts) j 0 ≡ v = getD-take n ts j 0 (omega arith) ∙ eqb-true (getD ts j 0) v q in
-      subst (λ (z : ℕ). enter z (take n ts) ≡ take n ts) is (enter-known (take n ts) j r (omega arith)))
-      (λ q. known j (omega arith) (has-on v (suc j) j ts (sym (add-one j)) (eqb-false (getD ts j 0) v q) ∙ e))
+  -- the search: how it begins, a turn of it, and how it ends
+  pub within : below v (take n ts) ≤ n
+  within = by (known v (take n ts) r)
+    where
+      by : {b a : ℕ} → Known v (take n ts) b a → b ≤ n
+      by (stands s g f) = omega (arith, all-of)
+      by (belongs s g f) = omega (arith, all-of)
 
-  longer : hasIn v n ts ≡ false → length (enter v (take n ts)) ≡ n + 1
-  longer f =
-      let l = whole in
-      let front : List ℕ = take n ts in
-      let a = ap (λ (z : List ℕ). length z) (sifted v n ts [] h r f) in
-      let b = length-sift n (front ++ (v ∷ [])) in
-      let c = length-append front (v ∷ []) in
-      let d = length-append (enter v front) [] in
-      omega arith
+  turns : (k : ℕ) → k < n → (getD ts k 0 < v → k < below v (take n ts)) × (v ≤ getD ts k 0 → below v (take n ts) ≤ k)
+  turns k b = by (side v (take n ts) r k (omega (arith, all-of)))
+    where
+      same : getD (take n ts) k 0 ≡ getD ts k 0
+      same = getD-take n ts k 0 b
 
-  pub entered-known : hasIn v n ts ≡ true → (n ≡ countedIn v n ts) × (ts ≡ enteredIn v n ts)
+      by : {c : ℕ} → Side v (getD (take n ts) k 0) k c → (getD ts k 0 < v → k < c) × (v ≤ getD ts k 0 → c ≤ k)
+      by (lower l i) = ((λ m. i), (λ m. absurd (omega (arith, same))))
+      by (upper l i) = ((λ m. absurd (omega (arith, same))), (λ m. i))
+
+  pub goes-right : (k : ℕ) → k < n → getD ts k 0 < v → k < below v (take n ts)
+  goes-right k b = turns k b .0
+
+  pub goes-left : (k : ℕ) → k < n → v ≤ getD ts k 0 → below v (take n ts) ≤ k
+  goes-left k b = turns k b .1
+
+  sought-is : soughtIn v (take n ts) ≡ pick (ltb (below v (take n ts) + above v (take n ts)) n) There (Missing (below v (take n ts)))
+  unfolding soughtIn
+  sought-is = rw all-of refl
+
+  pub found-there : (k : ℕ) → k ≡ below v (take n ts) → k < n → getD ts k 0 ≡ v → There ≡ soughtIn v (take n ts)
+  unfolding pick
+  found-there k e b is = rw (sought-is, lt-ltb (below v (take n ts) + above v (take n ts)) n (by (known v (take n ts) r) e)) refl
+    where
+      by : {c a : ℕ} → Known v (take n ts) c a → k ≡ c → c + a < n
+      by (stands s g f) e = omega (arith, all-of)
+      by (belongs s g f) e =
+          let l : v < getD (take n ts) k 0 = rw e (g (omega (arith, all-of))) in
+          absurd (omega (arith, getD-take n ts k 0 b))
+
+  pub found-missing : (k : ℕ) → k ≡ below v (take n ts) → (k < n → getD ts k 0 ≡ v → ⊥) → Missing k ≡ soughtIn v (take n ts)
+  unfolding pick
+  found-missing k e none = rw (sought-is, le-ltb (below v (take n ts) + above v (take n ts)) n (by (known v (take n ts) r) e), e) refl
+    where
+      by : {c a : ℕ} → Known v (take n ts) c a → k ≡ c → n ≤ c + a
+      by (stands s g f) e =
+          let b : k < n = omega (arith, all-of) in
+          absurd (none b (sym (getD-take n ts k 0 b) ∙ rw e g))
+      by (belongs s g f) e = omega (arith, all-of)
+
+  -- v is there, and the table stays
+  pub entered-there : There ≡ soughtIn v (take n ts) → (n ≡ countedIn v n ts) × (ts ≡ enteredIn v n ts)
   unfolding countedIn enteredIn pick fill
-  entered-known e =
-      let k = known n (omega arith) e in (
-        rw (k, whole, le-ltb (length ts) n h) refl,
-        rw (k, whole, le-ltb (length ts) n h) (sym (take-append-drop n ts)),
+  entered-there e =
+      let k : enter v (take n ts) ≡ take n ts = stays (known v (take n ts) r) (e ∙ sought-is) in (
+        rw (k, all-of, le-ltb (length ts) n h) refl,
+        rw (k, all-of, le-ltb (length ts) n h) (sym (take-append-drop n ts)),
       )
+    where
+      stays : {b a : ℕ} → Known v (take n ts) b a → There ≡ pick (ltb (b + a) n) There (Missing b) → enter v (take n ts) ≡ take n ts
+      stays (stands s g f) e = f
+      stays {b} {a} (belongs s g f) e = clash (let t : ltb (b + a) n ≡ false = le-ltb (b + a) n (omega (arith, all-of)) in cc)
 
-  pub entered-full : hasIn v n ts ≡ false → length ts ≤ n → (n ≡ countedIn v n ts) × (ts ≡ enteredIn v n ts)
-  unfolding countedIn enteredIn pick fill
-  entered-full f g =
-      let k = longer f in (
-        rw (k, lt-ltb (length ts) (n + 1) (omega arith)) refl,
-        rw (k, lt-ltb (length ts) (n + 1) (omega arith)) refl,
-      )
+  -- v is missing, and belongs at k
+  module _ (k : ℕ) (e : Missing k ≡ soughtIn v (take n ts)) where
+    pub fits : (k + above v (take n ts) ≡ n) × (enter v (take n ts) ≡ take k (take n ts) ++ (v ∷ drop k (take n ts)))
+    unfolding pick
+    fits = by (known v (take n ts) r) (e ∙ sought-is)
+      where
+        by : {b a : ℕ} → Known v (take n ts) b a → Missing k ≡ pick (ltb (b + a) n) There (Missing b) → (k + a ≡ n) × (enter v (take n ts) ≡ take k (take n ts) ++ (v ∷ drop k (take n ts)))
+        by {b} {a} (stands s g f) e = clash (let t : ltb (b + a) n ≡ true = lt-ltb (b + a) n (omega (arith, all-of)) in cc)
+        by {b} {a} (belongs s g f) e =
+            let t : ltb (b + a) n ≡ false = le-ltb (b + a) n (omega (arith, all-of)) in
+            let is : k ≡ b = cc in
+            (omega (arith, all-of), rw is f)
 
-  pub entered-new : hasIn v n ts ≡ false → n < length ts → (n + 1 ≡ countedIn v n ts) × (siftOf n (set ts n v) ≡ enteredIn v n ts)
-  unfolding countedIn enteredIn pick fill
-  entered-new f g =
-      let k = longer f in (
-        rw (k, le-ltb (length ts) (n + 1) (omega arith)) refl,
-        rw (k, le-ltb (length ts) (n + 1) (omega arith), add-one n)
-            (ap (siftOf n) (set-split ts n v g) ∙ sifted v n ts (drop (suc n) ts) h r f),
-      )
+    longer : length (enter v (take n ts)) ≡ n + 1
+    longer =
+        let l = all-of in
+        let a = ap (λ (z : List ℕ). length z) (fits .1) in
+        let b = length-append (take k (take n ts)) (v ∷ drop k (take n ts)) in
+        let c = length-append (take k (take n ts)) (drop k (take n ts)) in
+        let d = ap (λ (z : List ℕ). length z) (take-append-drop k (take n ts)) in
+        omega arith
+
+    pub entered-full : length ts ≤ n → (n ≡ countedIn v n ts) × (ts ≡ enteredIn v n ts)
+    unfolding countedIn enteredIn pick
+    entered-full g = (
+      rw (longer, lt-ltb (length ts) (n + 1) (omega arith)) refl,
+      rw (longer, lt-ltb (length ts) (n + 1) (omega arith)) refl,
+    )
+
+    pub counted-new : n < length ts → n + 1 ≡ countedIn v n ts
+    unfolding countedIn pick
+    counted-new g = rw (longer, le-ltb (length ts) (n + 1) (omega arith)) refl
+
+    pub entered-new : n < length ts → (i : ℕ) (us : List ℕ) → i ≡ k → us ≡ raised i n ts → set us k v ≡ enteredIn v n ts
+    unfolding enteredIn pick fill
+    entered-new g i us is u =
+        let b : k ≤ n = omega (arith, fits .0) in
+        rw (longer, le-ltb (length ts) (n + 1) (omega arith), add-one n, fits .1, append-assoc, take-take k n ts b) (written n ts g k v us b (rw (← is) u))

@@ -1,7 +1,7 @@
 -- The searches over the rows of a patch's kinds, by the model's own searches, with the op count where there is no partner; and the
 -- function table with a place entered. Assumes nothing.
 use mathlib.Core.Bool.{Bool, true, false}
-use mathlib.Core.List.{List, map, reverse}
+use mathlib.Core.List.{List, [], _∷_, map, reverse}
 use mathlib.Core.Option.{Option, none, some}
 use mathlib.Core.Path.{_≡_}
 use Prim.Native.Nat.{ℕ, zero, suc, _+_, _<_}
@@ -15,6 +15,9 @@ use Rattle.ops.specs.Syntax.Bracket.{up, down, mid, flat}
 use Rattle.byte_fields.specs.Storage.{fill}
 use Rattle.machine_model.specs.Scan.{toEnd, toElse, toOpen, kth}
 use Rattle.machine_model.specs.Step.{enter}
+use Rattle.machine_model.specs.Limited.{count}
+use Rattle.searches.specs.declared.table.Sought.{Sought}
+use Rattle.searches.specs.declared.table.Sought.the-variants.{There, Missing}
 
 -- what a row of the table of kinds is to a search: Function, While and If open, End closes, Else stands between
 unfoldable pub rowBracket : ℕ → Bracket
@@ -111,19 +114,28 @@ lookedUp ks ps i = pick (ltb row.end (getD ks i 0)) ps (pick (eqb (getD ps i 0) 
 
 -- ---- the table: n places are counted in ts
 
--- whether v is among the first n
-unfoldable pub hasIn : ℕ → ℕ → List ℕ → Bool
-unfolding pick
-hasIn v zero ts = false
-hasIn v (suc i) ts = let rest = hasIn v i ts in pick (eqb (getD ts i 0) v) true rest
+-- 02, ask 2: "Put the new place straight where it belongs. We want fewer moves when a patch opens its routines"
 
--- the place at n, moved down past those before it that are not smaller
-unfoldable pub siftOf : ℕ → List ℕ → List ℕ
+-- how many entries are below the place v, after which it belongs, and how many above it, which have to move
+unfoldable pub below : ℕ → List ℕ → ℕ
+below v qs = count (map (λ q. ltb q v) qs)
+
+unfoldable pub above : ℕ → List ℕ → ℕ
+above v qs = count (map (λ q. ltb v q) qs)
+
+-- what a search for v says: it is there, where an entry is neither below nor above it; or it is missing, and belongs after those below
+unfoldable pub soughtIn : ℕ → List ℕ → Sought
 unfolding pick
-siftOf zero ts = ts
-siftOf (suc i) ts =
-    let rest = siftOf i (set (set ts (suc i) (getD ts i 0)) i (getD ts (suc i) 0)) in
-    pick (ltb (getD ts i 0) (getD ts (suc i) 0)) ts rest
+soughtIn v qs = pick (ltb (below v qs + above v qs) (length qs)) There (Missing (below v qs))
+
+-- how many entries move when v is entered: none where it is there, else those above it; and when one place is entered after the other
+unfoldable pub movesFor : ℕ → List ℕ → ℕ
+unfolding pick
+movesFor v qs = pick (ltb (below v qs + above v qs) (length qs)) 0 (above v qs)
+
+unfoldable pub movesForAll : List ℕ → List ℕ → ℕ
+movesForAll [] qs = 0
+movesForAll (v ∷ vs) qs = movesFor v qs + movesForAll vs (enter v qs)
 
 abbrev pub entry : ℕ → ℕ → List ℕ → List ℕ
 entry v n ts = enter v (take n ts)

@@ -1,17 +1,17 @@
 -- `searches::table::enter` meets its contract. Assumes nothing.
-use mathlib.Core.List.{List}
-use Prim.Native.Nat.{ℕ}
-use mathlib.Core.Path.{_∙_, sym, ap}
-use lib.ListN.{length, length-set}
-use Rattle.searches.proofs.Tables.{length-sift, entered-known, entered-full, entered-new}
+use mathlib.Core.Path.{_≡_, _∙_, sym}
+use lib.ListN.{take}
 use borrow.Author.Needs.{needs}
+use Rattle.searches.specs.Found.{soughtIn}
+use Rattle.searches.specs.declared.table.Sought.the-variants.{Missing}
+use Rattle.searches.proofs.Tables.{entered-there, entered-full, counted-new}
 use Rattle.searches.proofs.table.enter.Statement.{statement}
 use Rattle.searches.proofs.table.enter.Tie as tie
 
-same-length-3 : tie.Need-same-length-3
-same-length-3 c =
-    let at = c .before .before .before .before .before .before .before .before .before .args in
-    ap (λ (z : List ℕ). length z) (c .before .before .sift .ensures) ∙ length-sift _ _ ∙ length-set (at .table .now) (at .n) (at .v)
+-- what the search said in the arm where the place is missing
+missing : (c : tie.After-sought) → let a = c .before .before .before .before .before .args in
+    Missing (c .sought .given .0 .0) ≡ soughtIn (a .v) (take (a .n) (a .table .now))
+missing c = sym (c .sought .given .1) ∙ c .before .before .seek .ensures
 
 pub enter-spec : {M : Type 1} → statement M
 enter-spec =
@@ -19,12 +19,15 @@ enter-spec =
     (tie.spec
     (λ c κs. search needs)
     (λ c. search needs)
-    (λ c. entered-known _ _ _ (c .before .before .before .before .pre .0) (c .before .before .before .before .pre .1) (sym (c .before .contains .ensures) ∙ c .if1 .taken))
-    (λ c. search needs)
-    (λ c. entered-full _ _ _ (c .before .before .before .before .before .pre .0) (c .before .before .before .before .before .pre .1) (sym (c .before .before .contains .ensures) ∙ c .before .if1 .left) (c .if2 .taken))
     (λ c. search needs)
     (λ c. search needs)
-    (λ c κs. search needs)
+    (λ c. let q = c .before .before in let a = q .before .before .before .before .before in entered-full _ _ _ (a .pre .0) (a .pre .1) _ (missing q) (c .if1 .taken))
+    (λ c κs. (search needs, search needs, missing (c .before .before .before)))
     (λ c. search needs)
-    same-length-3
-    (λ c. rw (c .before .before .sift .ensures) (entered-new _ _ _ (c .before .before .before .before .before .before .before .before .before .pre .0) (c .before .before .before .before .before .before .before .before .before .pre .1) (sym (c .before .before .before .before .before .before .contains .ensures) ∙ c .before .before .before .before .before .if1 .left) (c .before .before .before .before .if2 .left))))
+    (λ c. search needs)
+    (λ c. let a = c .before .before .before .before .before in entered-there _ _ _ (a .pre .0) (a .pre .1) (sym (c .enum-told .given .1) ∙ c .before .before .seek .ensures))
+    (λ c. search needs)
+    (λ c.
+    let q = c .before .before .before .before .before .before in
+    let a = q .before .before .before .before .before in
+    (counted-new _ _ _ (a .pre .0) (a .pre .1) _ (missing q) (c .before .before .before .before .if1 .left), c .before .before .insert .ensures .1)))
