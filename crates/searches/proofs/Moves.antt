@@ -12,7 +12,9 @@ use Rattle.basics.proofs.Tests.{byCase}
 use Rattle.machine_model.specs.Step.{enter}
 use Rattle.machine_model.specs.Formed.{Each, Rising}
 use Rattle.machine_model.proofs.Each.{each-at, each-end}
-use Rattle.searches.specs.Found.{below, above, movesFor, movesForAll}
+use Rattle.searches.specs.Found.{below, above, soughtIn, movesAt, movesFor, movesForAll}
+use Rattle.searches.specs.declared.table.Sought.{Sought}
+use Rattle.searches.specs.declared.table.Sought.the-variants.{There, Missing}
 
 -- "never more than the entries there are"
 pub moves-few : (v : ℕ) (qs : List ℕ) → above v qs ≤ length qs
@@ -36,8 +38,12 @@ module _ (v : ℕ) where
       rw (le-ltb v q (omega arith), ne-eqb v q (λ e. omega arith)) (ap (λ (z : List ℕ). q ∷ z) (goes-last qs (a .1)))
 
   none-moves : (qs : List ℕ) → Each (λ q. q < v) qs → movesFor v qs ≡ 0
-  unfolding movesFor pick
-  none-moves qs a = byCase (ltb (below v qs + above v qs) (length qs)) (λ e. rw e refl) (λ e. rw e (none-above qs a))
+  unfolding movesFor
+  none-moves qs a = rw (none-above qs a) (by (soughtIn v qs))
+    where
+      by : (s : Sought) → movesAt s 0 ≡ 0
+      by There = refl
+      by (Missing k) = refl
 
 in-order : (vs qs : List ℕ) → Rising vs → Each (λ v. Each (λ q. q < v) qs) vs → movesForAll vs qs ≡ 0
 unfolding movesForAll
@@ -62,7 +68,7 @@ falling zero = []
 falling (suc n) = n ∷ falling n
 
 pub opened-from-the-last : movesForAll (falling 256) [] ≡ 32640
-unfolding movesForAll movesFor below above enter pick
+unfolding movesForAll movesFor soughtIn below above enter pick
 opened-from-the-last = refl
 
 -- ---- no placing can move fewer

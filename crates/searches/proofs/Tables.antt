@@ -95,12 +95,9 @@ unfoldable pub raised : ℕ → ℕ → List ℕ → List ℕ
 raised i n ts = take (suc i) ts ++ (drop i (take n ts) ++ drop (suc n) ts)
 
 module _ (n : ℕ) (ts : List ℕ) (h : n < length ts) where
-  whole : length (take n ts) ≡ n
-  whole = length-take-le n ts (omega arith)
-
   pub room-begins : ts ≡ raised n n ts
   unfolding raised
-  room-begins = rw (drop-of-length-le (take n ts) {i = n} (omega (arith, whole))) (sym (take-append-drop (suc n) ts))
+  room-begins = rw (drop-of-length-le (take n ts) {i = n} (omega (arith, length-take-le n ts (omega arith)))) (sym (take-append-drop (suc n) ts))
 
   -- the i-th place written anew
   written : (i w : ℕ) (us : List ℕ) → i ≤ n → us ≡ raised i n ts → set us i w ≡ take i ts ++ (w ∷ (drop i (take n ts) ++ drop (suc n) ts))
@@ -116,25 +113,25 @@ module _ (n : ℕ) (ts : List ℕ) (h : n < length ts) where
       let read : getD us j 0 ≡ getD ts j 0 =
       rw e (List·getD-append (take (suc i) ts) (drop i (take n ts) ++ drop (suc n) ts) 0 j (omega arith) ∙ getD-take (suc i) ts j 0 (omega arith)) in
       let cut : drop j (take n ts) ≡ getD ts j 0 ∷ drop i (take n ts) =
-      rw (s, add-one j, ← getD-take n ts j 0 (omega arith)) (drop-cons (take n ts) j 0 (omega (arith, whole))) in
+      rw (s, add-one j, ← getD-take n ts j 0 (omega arith)) (drop-cons (take n ts) j 0 (omega (arith, length-take-le n ts (omega arith)))) in
       written i (getD us j 0) us b e ∙ rw (read, cut, s, add-one j) refl
 
 -- ---- the first n entries of ts
 
 module _ (v n : ℕ) (ts : List ℕ) (h : n ≤ length ts) (r : Rising (take n ts)) where
-  all-of : length (take n ts) ≡ n
-  all-of = length-take-le n ts h
+  whole : length (take n ts) ≡ n
+  whole = length-take-le n ts h
 
   -- the search: how it begins, a turn of it, and how it ends
   pub within : below v (take n ts) ≤ n
   within = by (known v (take n ts) r)
     where
       by : {b a : ℕ} → Known v (take n ts) b a → b ≤ n
-      by (stands s g f) = omega (arith, all-of)
-      by (belongs s g f) = omega (arith, all-of)
+      by (stands s g f) = omega (arith, whole)
+      by (belongs s g f) = omega (arith, whole)
 
   turns : (k : ℕ) → k < n → (getD ts k 0 < v → k < below v (take n ts)) × (v ≤ getD ts k 0 → below v (take n ts) ≤ k)
-  turns k b = by (side v (take n ts) r k (omega (arith, all-of)))
+  turns k b = by (side v (take n ts) r k (omega (arith, whole)))
     where
       same : getD (take n ts) k 0 ≡ getD ts k 0
       same = getD-take n ts k 0 b
@@ -151,16 +148,16 @@ module _ (v n : ℕ) (ts : List ℕ) (h : n ≤ length ts) (r : Rising (take n t
 
   sought-is : soughtIn v (take n ts) ≡ pick (ltb (below v (take n ts) + above v (take n ts)) n) There (Missing (below v (take n ts)))
   unfolding soughtIn
-  sought-is = rw all-of refl
+  sought-is = rw whole refl
 
   pub found-there : (k : ℕ) → k ≡ below v (take n ts) → k < n → getD ts k 0 ≡ v → There ≡ soughtIn v (take n ts)
   unfolding pick
   found-there k e b is = rw (sought-is, lt-ltb (below v (take n ts) + above v (take n ts)) n (by (known v (take n ts) r) e)) refl
     where
       by : {c a : ℕ} → Known v (take n ts) c a → k ≡ c → c + a < n
-      by (stands s g f) e = omega (arith, all-of)
+      by (stands s g f) e = omega (arith, whole)
       by (belongs s g f) e =
-          let l : v < getD (take n ts) k 0 = rw e (g (omega (arith, all-of))) in
+          let l : v < getD (take n ts) k 0 = rw e (g (omega (arith, whole))) in
           absurd (omega (arith, getD-take n ts k 0 b))
 
   pub found-missing : (k : ℕ) → k ≡ below v (take n ts) → (k < n → getD ts k 0 ≡ v → ⊥) → Missing k ≡ soughtIn v (take n ts)
@@ -169,22 +166,22 @@ module _ (v n : ℕ) (ts : List ℕ) (h : n ≤ length ts) (r : Rising (take n t
     where
       by : {c a : ℕ} → Known v (take n ts) c a → k ≡ c → n ≤ c + a
       by (stands s g f) e =
-          let b : k < n = omega (arith, all-of) in
+          let b : k < n = omega (arith, whole) in
           absurd (none b (sym (getD-take n ts k 0 b) ∙ rw e g))
-      by (belongs s g f) e = omega (arith, all-of)
+      by (belongs s g f) e = omega (arith, whole)
 
   -- v is there, and the table stays
   pub entered-there : There ≡ soughtIn v (take n ts) → (n ≡ countedIn v n ts) × (ts ≡ enteredIn v n ts)
   unfolding countedIn enteredIn pick fill
   entered-there e =
       let k : enter v (take n ts) ≡ take n ts = stays (known v (take n ts) r) (e ∙ sought-is) in (
-        rw (k, all-of, le-ltb (length ts) n h) refl,
-        rw (k, all-of, le-ltb (length ts) n h) (sym (take-append-drop n ts)),
+        rw (k, whole, le-ltb (length ts) n h) refl,
+        rw (k, whole, le-ltb (length ts) n h) (sym (take-append-drop n ts)),
       )
     where
       stays : {b a : ℕ} → Known v (take n ts) b a → There ≡ pick (ltb (b + a) n) There (Missing b) → enter v (take n ts) ≡ take n ts
       stays (stands s g f) e = f
-      stays {b} {a} (belongs s g f) e = clash (let t : ltb (b + a) n ≡ false = le-ltb (b + a) n (omega (arith, all-of)) in cc)
+      stays {b} {a} (belongs s g f) e = clash (let t : ltb (b + a) n ≡ false = le-ltb (b + a) n (omega (arith, whole)) in cc)
 
   -- v is missing, and belongs at k
   module _ (k : ℕ) (e : Missing k ≡ soughtIn v (take n ts)) where
@@ -193,15 +190,15 @@ module _ (v n : ℕ) (ts : List ℕ) (h : n ≤ length ts) (r : Rising (take n t
     fits = by (known v (take n ts) r) (e ∙ sought-is)
       where
         by : {b a : ℕ} → Known v (take n ts) b a → Missing k ≡ pick (ltb (b + a) n) There (Missing b) → (k + a ≡ n) × (enter v (take n ts) ≡ take k (take n ts) ++ (v ∷ drop k (take n ts)))
-        by {b} {a} (stands s g f) e = clash (let t : ltb (b + a) n ≡ true = lt-ltb (b + a) n (omega (arith, all-of)) in cc)
+        by {b} {a} (stands s g f) e = clash (let t : ltb (b + a) n ≡ true = lt-ltb (b + a) n (omega (arith, whole)) in cc)
         by {b} {a} (belongs s g f) e =
-            let t : ltb (b + a) n ≡ false = le-ltb (b + a) n (omega (arith, all-of)) in
+            let t : ltb (b + a) n ≡ false = le-ltb (b + a) n (omega (arith, whole)) in
             let is : k ≡ b = cc in
-            (omega (arith, all-of), rw is f)
+            (omega (arith, whole), rw is f)
 
     longer : length (enter v (take n ts)) ≡ n + 1
     longer =
-        let l = all-of in
+        let l = whole in
         let a = ap (λ (z : List ℕ). length z) (fits .1) in
         let b = length-append (take k (take n ts)) (v ∷ drop k (take n ts)) in
         let c = length-append (take k (take n ts)) (drop k (take n ts)) in

@@ -129,9 +129,12 @@ unfolding pick
 soughtIn v qs = pick (ltb (below v qs + above v qs) (length qs)) There (Missing (below v qs))
 
 -- how many entries move when v is entered: none where it is there, else those above it; and when one place is entered after the other
+abbrev pub movesAt : Sought → ℕ → ℕ
+movesAt There a = 0
+movesAt (Missing k) a = a
+
 unfoldable pub movesFor : ℕ → List ℕ → ℕ
-unfolding pick
-movesFor v qs = pick (ltb (below v qs + above v qs) (length qs)) 0 (above v qs)
+movesFor v qs = movesAt (soughtIn v qs) (above v qs)
 
 unfoldable pub movesForAll : List ℕ → List ℕ → ℕ
 movesForAll [] qs = 0
