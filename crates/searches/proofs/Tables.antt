@@ -2,6 +2,7 @@
 -- others stay. Assumes nothing.
 use mathlib.Core.Path.{_≡_, _∙_, refl, ap, sym}
 use mathlib.Core.Bool.{true, false}
+use mathlib.Core.Logic.{_⊎_, inl, inr}
 use mathlib.Core.List.{List, [], _∷_, _++_, append-assoc}
 use Prim.Native.Nat.{ℕ, zero, suc, _+_, _≤_, _<_}
 use native.Mathlib.Omega.{arith}
@@ -40,24 +41,23 @@ module _ (v : ℕ) where
   from : (q : ℕ) (qs : List ℕ) → Rising (q ∷ qs) → v ≤ q → Each (λ y. v ≤ y) (q ∷ qs)
   from q qs r l = (l, each-to (λ y. v < y) (λ y. v ≤ y) (λ y h. omega arith) qs (after q qs r l))
 
-  -- an entry is below v exactly where its number is less than the number of those below v
-  data Side (x k b : ℕ) : Type 0 where
-    lower : x < v → k < b → Side x k b
-    upper : v ≤ x → b ≤ k → Side x k b
+  -- an entry x with the number k, and the number b of entries below v: x is below v exactly where k is below b
+  abbrev pub Side : ℕ → ℕ → ℕ → Type 0
+  Side x k b = ((x < v) × (k < b)) ⊎ ((v ≤ x) × (b ≤ k))
 
   side : (qs : List ℕ) → Rising qs → (k : ℕ) → k < length qs → Side (getD qs k 0) k (below v qs)
   unfolding below
   side [] r k h = absurd (omega arith)
   side (q ∷ qs) r k h = byCase (ltb q v) (low k h (side qs (r .1))) (λ e.
       let all = from q qs r (ltb-false q v e) in
-      upper (each-at (λ y. v ≤ y) (q ∷ qs) k h all) (omega (arith, below-none (q ∷ qs) all)))
+      inr (each-at (λ y. v ≤ y) (q ∷ qs) k h all, omega (arith, below-none (q ∷ qs) all)))
     where
       more : {x k b : ℕ} → Side x k b → Side x (suc k) (suc b)
-      more (lower l h) = lower l (omega arith)
-      more (upper l h) = upper l (omega arith)
+      more (inl w) = inl (w .0, omega arith)
+      more (inr w) = inr (w .0, omega arith)
 
       low : (k : ℕ) → k < length (q ∷ qs) → ((j : ℕ) → j < length qs → Side (getD qs j 0) j (below v qs)) → ltb q v ≡ true → Side (getD (q ∷ qs) k 0) k (below v (q ∷ qs))
-      low zero h rest e = rw e (lower (ltb-true q v e) (omega arith))
+      low zero h rest e = rw e (inl (ltb-true q v e, omega arith))
       low (suc k) h rest e = rw e (more (rest k (omega arith)))
 
   -- of b entries below v and a above it: either v stands after those below, or it belongs there
@@ -130,21 +130,8 @@ module _ (v n : ℕ) (ts : List ℕ) (h : n ≤ length ts) (r : Rising (take n t
       by (stands s g f) = omega (arith, whole)
       by (belongs s g f) = omega (arith, whole)
 
-  turns : (k : ℕ) → k < n → (getD ts k 0 < v → k < below v (take n ts)) × (v ≤ getD ts k 0 → below v (take n ts) ≤ k)
-  turns k b = by (side v (take n ts) r k (omega (arith, whole)))
-    where
-      same : getD (take n ts) k 0 ≡ getD ts k 0
-      same = getD-take n ts k 0 b
-
-      by : {c : ℕ} → Side v (getD (take n ts) k 0) k c → (getD ts k 0 < v → k < c) × (v ≤ getD ts k 0 → c ≤ k)
-      by (lower l i) = ((λ m. i), (λ m. absurd (omega (arith, same))))
-      by (upper l i) = ((λ m. absurd (omega (arith, same))), (λ m. i))
-
-  pub goes-right : (k : ℕ) → k < n → getD ts k 0 < v → k < below v (take n ts)
-  goes-right k b = turns k b .0
-
-  pub goes-left : (k : ℕ) → k < n → v ≤ getD ts k 0 → below v (take n ts) ≤ k
-  goes-left k b = turns k b .1
+  pub turns : (k : ℕ) → k < n → Side v (getD ts k 0) k (below v (take n ts))
+  turns k b = rw (← getD-take n ts k 0 b) (side v (take n ts) r k (omega (arith, whole)))
 
   sought-is : soughtIn v (take n ts) ≡ pick (ltb (below v (take n ts) + above v (take n ts)) n) There (Missing (below v (take n ts)))
   unfolding soughtIn

@@ -1,10 +1,11 @@
 -- `searches::table::seek` meets its contract: where v belongs is never before `low` and never beyond `high`. Assumes nothing.
-use Prim.Native.Nat.{_+_, _-_, _/_, _≤_}
+use mathlib.Core.Logic.{⊎-elim}
+use Prim.Native.Nat.{ℕ, _+_, _-_, _/_, _≤_, _<_}
 use native.Mathlib.Omega.{arith}
-use lib.ListN.{take}
+use lib.ListN.{take, getD}
 use borrow.Author.Needs.{needs}
 use Rattle.searches.specs.Found.{below}
-use Rattle.searches.proofs.Tables.{within, goes-right, goes-left, found-there, found-missing}
+use Rattle.searches.proofs.Tables.{Side, within, turns, found-there, found-missing}
 use Rattle.searches.proofs.table.seek.Statement.{statement}
 use Rattle.searches.proofs.table.seek.Tie as tie
 
@@ -14,23 +15,30 @@ Inv-loop table n v last low₀ high₀ low high = (low ≤ below v (take n table
 abbrev μ-loop : tie.MeasureT-loop
 μ-loop table n v last low₀ high₀ low high = high - low
 
+-- where v belongs, beside n and beside each entry
 least : (c : tie.Start Inv-loop μ-loop) → below (c .args .v) (take (c .args .n) (c .args .table .now)) ≤ c .args .n
 least c = within _ _ _ (c .pre .0) (c .pre .1)
+
+beside : (c : tie.Start Inv-loop μ-loop) (k : ℕ) → k < c .args .n → Side (c .args .v) (getD (c .args .table .now) k 0) k (below (c .args .v) (take (c .args .n) (c .args .table .now)))
+beside c = turns _ _ _ (c .pre .0) (c .pre .1)
 
 goes-last : tie.Need-returns-2 Inv-loop μ-loop
 goes-last c =
     let start = c .before .before .before in
-    let a = start .args in
-    let passed = goes-right (a .v) (a .n) (a .table .now) (start .pre .0) (start .pre .1) (a .n - 1) (omega arith) (omega arith) in
-    found-missing _ _ _ (start .pre .0) (start .pre .1) _ (omega (arith, least start)) (λ h e. omega arith)
+    let room = least start in
+    found-missing _ _ _ (start .pre .0) (start .pre .1) _ (⊎-elim (λ w. omega arith) (λ w. omega arith) (beside start (start .args .n - 1) (omega arith))) (λ h e. omega arith)
 
 right : tie.Need-loop-again Inv-loop μ-loop
 right c =
     let turn = c .before .before .before .loop in
     let start = c .before .before .before .before .before .before .before in
-    let a = start .args in
-    let passed = goes-right (a .v) (a .n) (a .table .now) (start .pre .0) (start .pre .1) (turn .low + (turn .high - turn .low) / 2) (omega arith) (omega arith) in
-    (omega arith, omega arith, omega arith)
+    (⊎-elim (λ w. omega arith) (λ w. omega arith) (beside start (turn .low + (turn .high - turn .low) / 2) (omega arith)), omega arith, omega arith)
+
+left : tie.Need-loop-again-2 Inv-loop μ-loop
+left c =
+    let turn = c .before .before .before .loop in
+    let start = c .before .before .before .before .before .before .before in
+    (omega arith, ⊎-elim (λ w. omega arith) (λ w. omega arith) (beside start (turn .low + (turn .high - turn .low) / 2) (omega arith)), omega arith)
 
 pub seek-spec : {M : Type 1} → statement M
 seek-spec =
@@ -52,7 +60,7 @@ seek-spec =
     (λ c. search needs)
     right
     (λ c. search needs)
-    (λ c. let pre = c .before .before .before .before .before .before .before .pre in (omega arith, goes-left _ _ _ (pre .0) (pre .1) _ (omega arith) (c .if3 .left), omega arith))
+    left
     (λ c. search needs)
     (λ c. search needs)
     (λ c. let pre = c .before .before .before .before .before .before .before .before .pre in found-there _ _ _ (pre .0) (pre .1) _ (omega arith) (omega arith) (c .if5 .taken))
