@@ -1,6 +1,6 @@
 -- How many entries of the function table move when a place is entered: those above it and no others, none when routines are opened in order; and no
 -- placing can move fewer. Assumes nothing.
-use mathlib.Core.Path.{_≡_, refl, ap, sym}
+use mathlib.Core.Path.{_≡_, _∙_, refl, ap, sym}
 use mathlib.Core.List.{List, [], _∷_, _++_}
 use Prim.Native.Nat.{ℕ, zero, suc, _+_, _≤_, _<_}
 use native.Mathlib.Omega.{arith}
@@ -13,6 +13,7 @@ use Rattle.machine_model.specs.Step.{enter}
 use Rattle.machine_model.specs.Formed.{Each, Rising}
 use Rattle.machine_model.proofs.Each.{each-at, each-end}
 use Rattle.searches.specs.Found.{below, above, soughtIn, movesAt, movesFor, movesForAll}
+use Rattle.searches.proofs.Tables.{past}
 use Rattle.searches.specs.declared.table.Sought.{Sought}
 use Rattle.searches.specs.declared.table.Sought.the-variants.{There, Missing}
 
@@ -33,9 +34,7 @@ module _ (v : ℕ) where
   goes-last : (qs : List ℕ) → Each (λ q. q < v) qs → enter v qs ≡ qs ++ (v ∷ [])
   unfolding enter
   goes-last [] a = refl
-  goes-last (q ∷ qs) a =
-      let l : q < v = a .0 in
-      rw (le-ltb v q (omega arith), ne-eqb v q (λ e. omega arith)) (ap (λ (z : List ℕ). q ∷ z) (goes-last qs (a .1)))
+  goes-last (q ∷ qs) a = past v q qs (a .0) ∙ ap (λ (z : List ℕ). q ∷ z) (goes-last qs (a .1))
 
   none-moves : (qs : List ℕ) → Each (λ q. q < v) qs → movesFor v qs ≡ 0
   unfolding movesFor
@@ -48,7 +47,9 @@ module _ (v : ℕ) where
 in-order : (vs qs : List ℕ) → Rising vs → Each (λ v. Each (λ q. q < v) qs) vs → movesForAll vs qs ≡ 0
 unfolding movesForAll
 in-order [] qs r a = refl
-in-order (v ∷ vs) qs r a = rw (none-moves v qs (a .0), goes-last v qs (a .0), in-order vs (qs ++ (v ∷ [])) (r .1) (longer vs (a .1) (r .0))) refl
+in-order (v ∷ vs) qs r a =
+    let rest = in-order vs (qs ++ (v ∷ [])) (r .1) (longer vs (a .1) (r .0)) in
+    rw (none-moves v qs (a .0), goes-last v qs (a .0), rest) refl
   where
     longer : (ws : List ℕ) → Each (λ w. Each (λ q. q < w) qs) ws → Each (λ w. v < w) ws → Each (λ w. Each (λ q. q < w) (qs ++ (v ∷ []))) ws
     longer [] a b = tt

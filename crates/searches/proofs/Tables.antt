@@ -56,9 +56,15 @@ module _ (v : ℕ) where
       more (inl w) = inl (w .0, omega arith)
       more (inr w) = inr (w .0, omega arith)
 
-      low : (k : ℕ) → k < length (q ∷ qs) → ((j : ℕ) → j < length qs → Side (getD qs j 0) j (below v qs)) → ltb q v ≡ true → Side (getD (q ∷ qs) k 0) k (below v (q ∷ qs))
+      low : (k : ℕ) → k < length (q ∷ qs) → ((j : ℕ) → j < length qs → Side (getD qs j 0) j (below v qs)) → ltb q v ≡ true
+          → Side (getD (q ∷ qs) k 0) k (below v (q ∷ qs))
       low zero h rest e = rw e (inl (ltb-true q v e, omega arith))
       low (suc k) h rest e = rw e (more (rest k (omega arith)))
+
+  -- v goes past an entry below it
+  pub past : (q : ℕ) (qs : List ℕ) → q < v → enter v (q ∷ qs) ≡ q ∷ enter v qs
+  unfolding enter
+  past q qs l = rw (le-ltb v q (omega arith), ne-eqb v q (λ e. omega arith)) refl
 
   -- of b entries below v and a above it: either v stands after those below, or it belongs there
   data Known (qs : List ℕ) (b a : ℕ) : Type 0 where
@@ -82,12 +88,9 @@ module _ (v : ℕ) where
       apart : v ≤ q → (q ≡ v → ⊥) → v < q
       apart l n = omega arith
 
-      past : q < v → enter v (q ∷ qs) ≡ q ∷ enter v qs
-      past l = rw (le-ltb v q (omega arith), ne-eqb v q (λ e. omega arith)) refl
-
       on : {b a : ℕ} → q < v → Known qs b a → Known (q ∷ qs) (suc b) a
-      on l (stands s g f) = stands (omega arith) g (past l ∙ ap (λ (z : List ℕ). q ∷ z) f)
-      on l (belongs s g f) = belongs (omega arith) (λ h. g (omega arith)) (past l ∙ ap (λ (z : List ℕ). q ∷ z) f)
+      on l (stands s g f) = stands (omega arith) g (past q qs l ∙ ap (λ (z : List ℕ). q ∷ z) f)
+      on l (belongs s g f) = belongs (omega arith) (λ h. g (omega arith)) (past q qs l ∙ ap (λ (z : List ℕ). q ∷ z) f)
 
 -- ---- making room: the entries from the i-th to the n-th stand one place higher, and the i-th still where it stood
 
@@ -118,28 +121,31 @@ module _ (n : ℕ) (ts : List ℕ) (h : n < length ts) where
 
 -- ---- the first n entries of ts
 
-module _ (v n : ℕ) (ts : List ℕ) (h : n ≤ length ts) (r : Rising (take n ts)) where
+module _ (v n : ℕ) (ts : List ℕ) (pre : (n ≤ length ts) × Rising (take n ts)) where
   whole : length (take n ts) ≡ n
-  whole = length-take-le n ts h
+  whole = length-take-le n ts (pre .0)
+
+  here : Known v (take n ts) (below v (take n ts)) (above v (take n ts))
+  here = known v (take n ts) (pre .1)
+
+  sought-is : soughtIn v (take n ts) ≡ pick (ltb (below v (take n ts) + above v (take n ts)) n) There (Missing (below v (take n ts)))
+  unfolding soughtIn
+  sought-is = rw whole refl
 
   -- the search: how it begins, a turn of it, and how it ends
   pub within : below v (take n ts) ≤ n
-  within = by (known v (take n ts) r)
+  within = by here
     where
       by : {b a : ℕ} → Known v (take n ts) b a → b ≤ n
       by (stands s g f) = omega (arith, whole)
       by (belongs s g f) = omega (arith, whole)
 
   pub turns : (k : ℕ) → k < n → Side v (getD ts k 0) k (below v (take n ts))
-  turns k b = rw (← getD-take n ts k 0 b) (side v (take n ts) r k (omega (arith, whole)))
-
-  sought-is : soughtIn v (take n ts) ≡ pick (ltb (below v (take n ts) + above v (take n ts)) n) There (Missing (below v (take n ts)))
-  unfolding soughtIn
-  sought-is = rw whole refl
+  turns k b = rw (← getD-take n ts k 0 b) (side v (take n ts) (pre .1) k (omega (arith, whole)))
 
   pub found-there : (k : ℕ) → k ≡ below v (take n ts) → k < n → getD ts k 0 ≡ v → There ≡ soughtIn v (take n ts)
   unfolding pick
-  found-there k e b is = rw (sought-is, lt-ltb (below v (take n ts) + above v (take n ts)) n (by (known v (take n ts) r) e)) refl
+  found-there k e b is = rw (sought-is, lt-ltb (below v (take n ts) + above v (take n ts)) n (by here e)) refl
     where
       by : {c a : ℕ} → Known v (take n ts) c a → k ≡ c → c + a < n
       by (stands s g f) e = omega (arith, whole)
@@ -149,7 +155,7 @@ module _ (v n : ℕ) (ts : List ℕ) (h : n ≤ length ts) (r : Rising (take n t
 
   pub found-missing : (k : ℕ) → k ≡ below v (take n ts) → (k < n → getD ts k 0 ≡ v → ⊥) → Missing k ≡ soughtIn v (take n ts)
   unfolding pick
-  found-missing k e none = rw (sought-is, le-ltb (below v (take n ts) + above v (take n ts)) n (by (known v (take n ts) r) e), e) refl
+  found-missing k e none = rw (sought-is, le-ltb (below v (take n ts) + above v (take n ts)) n (by here e), e) refl
     where
       by : {c a : ℕ} → Known v (take n ts) c a → k ≡ c → n ≤ c + a
       by (stands s g f) e =
@@ -161,9 +167,9 @@ module _ (v n : ℕ) (ts : List ℕ) (h : n ≤ length ts) (r : Rising (take n t
   pub entered-there : There ≡ soughtIn v (take n ts) → (n ≡ countedIn v n ts) × (ts ≡ enteredIn v n ts)
   unfolding countedIn enteredIn pick fill
   entered-there e =
-      let k : enter v (take n ts) ≡ take n ts = stays (known v (take n ts) r) (e ∙ sought-is) in (
-        rw (k, whole, le-ltb (length ts) n h) refl,
-        rw (k, whole, le-ltb (length ts) n h) (sym (take-append-drop n ts)),
+      let k : enter v (take n ts) ≡ take n ts = stays here (e ∙ sought-is) in (
+        rw (k, whole, le-ltb (length ts) n (pre .0)) refl,
+        rw (k, whole, le-ltb (length ts) n (pre .0)) (sym (take-append-drop n ts)),
       )
     where
       stays : {b a : ℕ} → Known v (take n ts) b a → There ≡ pick (ltb (b + a) n) There (Missing b) → enter v (take n ts) ≡ take n ts
@@ -172,16 +178,22 @@ module _ (v n : ℕ) (ts : List ℕ) (h : n ≤ length ts) (r : Rising (take n t
 
   -- v is missing, and belongs at k
   module _ (k : ℕ) (e : Missing k ≡ soughtIn v (take n ts)) where
-    pub fits : (k + above v (take n ts) ≡ n) × (enter v (take n ts) ≡ take k (take n ts) ++ (v ∷ drop k (take n ts)))
+    abbrev Fits : ℕ → Type 0
+    Fits a = (k + a ≡ n) × (enter v (take n ts) ≡ take k (take n ts) ++ (v ∷ drop k (take n ts)))
+
+    fits : Fits (above v (take n ts))
     unfolding pick
-    fits = by (known v (take n ts) r) (e ∙ sought-is)
+    fits = by here (e ∙ sought-is)
       where
-        by : {b a : ℕ} → Known v (take n ts) b a → Missing k ≡ pick (ltb (b + a) n) There (Missing b) → (k + a ≡ n) × (enter v (take n ts) ≡ take k (take n ts) ++ (v ∷ drop k (take n ts)))
+        by : {b a : ℕ} → Known v (take n ts) b a → Missing k ≡ pick (ltb (b + a) n) There (Missing b) → Fits a
         by {b} {a} (stands s g f) e = clash (let t : ltb (b + a) n ≡ true = lt-ltb (b + a) n (omega (arith, whole)) in cc)
         by {b} {a} (belongs s g f) e =
             let t : ltb (b + a) n ≡ false = le-ltb (b + a) n (omega (arith, whole)) in
             let is : k ≡ b = cc in
             (omega (arith, whole), rw is f)
+
+    pub higher : k + above v (take n ts) ≡ n
+    higher = fits .0
 
     longer : length (enter v (take n ts)) ≡ n + 1
     longer =
@@ -206,5 +218,5 @@ module _ (v n : ℕ) (ts : List ℕ) (h : n ≤ length ts) (r : Rising (take n t
     pub entered-new : n < length ts → (i : ℕ) (us : List ℕ) → i ≡ k → us ≡ raised i n ts → set us k v ≡ enteredIn v n ts
     unfolding enteredIn pick fill
     entered-new g i us is u =
-        let b : k ≤ n = omega (arith, fits .0) in
+        let b : k ≤ n = omega (arith, higher) in
         rw (longer, le-ltb (length ts) (n + 1) (omega arith), add-one n, fits .1, append-assoc, take-take k n ts b) (written n ts g k v us b (rw (← is) u))

@@ -21,13 +21,13 @@ enter-spec =
     (λ c. search needs)
     (λ c. search needs)
     (λ c. search needs)
-    (λ c. let q = c .before .before in let a = q .before .before .before .before .before in entered-full _ _ _ (a .pre .0) (a .pre .1) _ (missing q) (c .if1 .taken))
+    (λ c. entered-full _ _ _ (c .before .before .before .before .before .before .before .pre) _ (missing (c .before .before)) (c .if1 .taken))
     (λ c κs. (search needs, search needs, missing (c .before .before .before)))
     (λ c. search needs)
     (λ c. search needs)
-    (λ c. let a = c .before .before .before .before .before in entered-there _ _ _ (a .pre .0) (a .pre .1) (sym (c .enum-told .given .1) ∙ c .before .before .seek .ensures))
+    (λ c. entered-there _ _ _ (c .before .before .before .before .before .pre) (sym (c .enum-told .given .1) ∙ c .before .before .seek .ensures))
     (λ c. search needs)
     (λ c.
     let q = c .before .before .before .before .before .before in
-    let a = q .before .before .before .before .before in
-    (counted-new _ _ _ (a .pre .0) (a .pre .1) _ (missing q) (c .before .before .before .before .if1 .left), c .before .before .insert .ensures .1)))
+    let pre = q .before .before .before .before .before .pre in
+    (counted-new _ _ _ pre _ (missing q) (c .before .before .before .before .if1 .left), c .before .before .insert .ensures .1)))

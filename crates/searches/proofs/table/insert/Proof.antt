@@ -4,8 +4,9 @@ use Prim.Native.Nat.{_+_, _≤_}
 use native.Mathlib.Omega.{arith}
 use lib.ListN.{length, take}
 use borrow.Author.Needs.{needs}
+use Rattle.machine_model.specs.Formed.{Rising}
 use Rattle.searches.specs.Found.{above}
-use Rattle.searches.proofs.Tables.{raised, room-begins, room-goes, fits, entered-new}
+use Rattle.searches.proofs.Tables.{raised, room-begins, room-goes, higher, entered-new}
 use Rattle.searches.proofs.table.insert.Statement.{statement}
 use Rattle.searches.proofs.table.insert.Tie as tie
 
@@ -15,24 +16,25 @@ Inv-loop table₀ n at v moved₀ i₀ table moved i = (at ≤ i) × (moved + i 
 abbrev μ-loop : tie.MeasureT-loop
 μ-loop table₀ n at v moved₀ i₀ table moved i = i
 
-belongs : (c : tie.Start Inv-loop μ-loop) → let a = c .args in
-    (a .n ≤ length (a .table .now)) × (a .at + above (a .v) (take (a .n) (a .table .now)) ≡ a .n)
-belongs c =
-    let few : c .args .n ≤ length (c .args .table .now) = omega arith in
-    (few, fits _ _ _ few (c .pre .1) _ (c .pre .2) .0)
+rises : (c : tie.Start Inv-loop μ-loop) → let a = c .args in (a .n ≤ length (a .table .now)) × Rising (take (a .n) (a .table .now))
+rises c = (omega arith, c .pre .1)
+
+above-it : (c : tie.Start Inv-loop μ-loop) → let a = c .args in a .at + above (a .v) (take (a .n) (a .table .now)) ≡ a .n
+above-it c = higher _ _ _ (rises c) _ (c .pre .2)
 
 loop-again : tie.Need-loop-again Inv-loop μ-loop
 loop-again c =
     let turn = c .before .before .loop in
-    let a = c .before .before .before .args in
-    (omega arith, omega arith, search needs, room-goes (a .n) (a .table .now) (c .before .before .before .pre .0) (turn .i) _ (turn .table) (omega arith) (omega arith) (turn .inv .3))
+    let start = c .before .before .before in
+    let goes = room-goes (start .args .n) (start .args .table .now) (start .pre .0) (turn .i) in
+    (omega arith, omega arith, search needs, goes _ (turn .table) (omega arith) (omega arith) (turn .inv .3))
 
 returns : tie.Need-returns Inv-loop μ-loop
 returns c =
     let turn = c .before .loop in
     let start = c .before .before in
-    let at = belongs start in
-    (omega arith, entered-new _ _ _ (at .0) (start .pre .1) _ (start .pre .2) (start .pre .0) (turn .i) (turn .table) (omega arith) (turn .inv .3))
+    let all = above-it start in
+    (omega arith, entered-new _ _ _ (rises start) _ (start .pre .2) (start .pre .0) (turn .i) (turn .table) (omega arith) (turn .inv .3))
 
 pub insert-spec : {M : Type 1} → statement M
 insert-spec =
@@ -40,7 +42,7 @@ insert-spec =
     (tie.spec
     Inv-loop
     μ-loop
-    (λ c. (omega (arith, belongs c .1), omega arith, refl, room-begins _ _ (c .pre .0)))
+    (λ c. (omega (arith, above-it c), omega arith, refl, room-begins _ _ (c .pre .0)))
     (λ c. search needs)
     (λ c. search needs)
     (λ c. search needs)

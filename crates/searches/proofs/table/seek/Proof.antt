@@ -15,30 +15,25 @@ Inv-loop table n v last low₀ high₀ low high = (low ≤ below v (take n table
 abbrev μ-loop : tie.MeasureT-loop
 μ-loop table n v last low₀ high₀ low high = high - low
 
--- where v belongs, beside n and beside each entry
+-- where v belongs: at most n, and on one side of each entry
 least : (c : tie.Start Inv-loop μ-loop) → below (c .args .v) (take (c .args .n) (c .args .table .now)) ≤ c .args .n
-least c = within _ _ _ (c .pre .0) (c .pre .1)
+least c = within _ _ _ (c .pre)
 
-beside : (c : tie.Start Inv-loop μ-loop) (k : ℕ) → k < c .args .n → Side (c .args .v) (getD (c .args .table .now) k 0) k (below (c .args .v) (take (c .args .n) (c .args .table .now)))
-beside c = turns _ _ _ (c .pre .0) (c .pre .1)
+beside : (c : tie.Start Inv-loop μ-loop) (k : ℕ) → k < c .args .n → let a = c .args in
+    Side (a .v) (getD (a .table .now) k 0) k (below (a .v) (take (a .n) (a .table .now)))
+beside c = turns _ _ _ (c .pre)
+
+middle : (c : tie.After-shared-slice-known2 Inv-loop μ-loop) → let a = c .before .before .before .before .before .before .args in
+    let turn = c .before .before .loop in let k = turn .low + (turn .high - turn .low) / 2 in
+    Side (a .v) (getD (a .table .now) k 0) k (below (a .v) (take (a .n) (a .table .now)))
+middle c = beside (c .before .before .before .before .before .before) _ (omega arith)
 
 goes-last : tie.Need-returns-2 Inv-loop μ-loop
 goes-last c =
     let start = c .before .before .before in
     let room = least start in
-    found-missing _ _ _ (start .pre .0) (start .pre .1) _ (⊎-elim (λ w. omega arith) (λ w. omega arith) (beside start (start .args .n - 1) (omega arith))) (λ h e. omega arith)
-
-right : tie.Need-loop-again Inv-loop μ-loop
-right c =
-    let turn = c .before .before .before .loop in
-    let start = c .before .before .before .before .before .before .before in
-    (⊎-elim (λ w. omega arith) (λ w. omega arith) (beside start (turn .low + (turn .high - turn .low) / 2) (omega arith)), omega arith, omega arith)
-
-left : tie.Need-loop-again-2 Inv-loop μ-loop
-left c =
-    let turn = c .before .before .before .loop in
-    let start = c .before .before .before .before .before .before .before in
-    (omega arith, ⊎-elim (λ w. omega arith) (λ w. omega arith) (beside start (turn .low + (turn .high - turn .low) / 2) (omega arith)), omega arith)
+    let last = beside start (start .args .n - 1) (omega arith) in
+    found-missing _ _ _ (start .pre) _ (⊎-elim (λ w. omega arith) (λ w. omega arith) last) (λ h e. omega arith)
 
 pub seek-spec : {M : Type 1} → statement M
 seek-spec =
@@ -46,7 +41,7 @@ seek-spec =
     (tie.spec
     Inv-loop
     μ-loop
-    (λ c. let start = c .before in found-missing _ _ _ (start .pre .0) (start .pre .1) _ (omega (arith, least start)) (λ h e. omega arith))
+    (λ c. found-missing _ _ _ (c .before .pre) _ (omega (arith, least (c .before))) (λ h e. omega arith))
     (λ c. search needs)
     (λ c. search needs)
     (λ c. search needs)
@@ -58,11 +53,11 @@ seek-spec =
     (λ c. search needs)
     (λ c. search needs)
     (λ c. search needs)
-    right
+    (λ c. (⊎-elim (λ w. omega arith) (λ w. omega arith) (middle (c .before)), omega arith, omega arith))
     (λ c. search needs)
-    left
+    (λ c. (omega arith, ⊎-elim (λ w. omega arith) (λ w. omega arith) (middle (c .before)), omega arith))
     (λ c. search needs)
     (λ c. search needs)
-    (λ c. let pre = c .before .before .before .before .before .before .before .before .pre in found-there _ _ _ (pre .0) (pre .1) _ (omega arith) (omega arith) (c .if5 .taken))
-    (λ c. let pre = c .before .before .before .before .before .before .before .before .pre in found-missing _ _ _ (pre .0) (pre .1) _ (omega arith) (λ h. c .if5 .left))
-    (λ c. let pre = c .before .before .before .before .before .before .pre in found-missing _ _ _ (pre .0) (pre .1) _ (omega arith) (λ h e. omega arith)))
+    (λ c. found-there _ _ _ (c .before .before .before .before .before .before .before .before .pre) _ (omega arith) (omega arith) (c .if5 .taken))
+    (λ c. found-missing _ _ _ (c .before .before .before .before .before .before .before .before .pre) _ (omega arith) (λ h. c .if5 .left))
+    (λ c. found-missing _ _ _ (c .before .before .before .before .before .before .pre) _ (omega arith) (λ h e. omega arith)))
