@@ -101,7 +101,7 @@ def smallest(judge):
     bad = 0
     for (row, wanted, c), case in zip(rows, data):
         sort, number, verdict, kind, nans = next(judged(judge, case))
-        met = verdict == wanted and (name(sort, number, verdict, kind) == row or verdict in ("agree", "big"))
+        met = verdict == wanted and (name(sort, number, verdict, kind) == row or verdict in ("agree", "big", "port"))
         if verdict == "hang":
             try:
                 list(judged(judge, case, "--raw", timeout=1))

@@ -6,6 +6,7 @@
     generate.py boundary               cases around every limit
     generate.py smallest               the smallest input of each row of docs/DIFFERENCES.md, in its order
 """
+import copy
 import itertools
 import os
 import random
@@ -15,7 +16,7 @@ import sys
 sys.path.insert(0, os.path.join(os.path.dirname(os.path.abspath(__file__)), "..", "tools"))
 import command
 import model01
-from lists import CHECK, FLATTEN, FRESH, JOIN, RUN, SLICES, Answer, Case, Machine, record, write
+from lists import CHECK, FLATTEN, FRESH, JOIN, RUN, SLICES, STEP, Answer, Case, Machine, record, write
 from model01 import (ALLOC, AND, CALL, CELL_OPS, COMMENT, COUNTED, DEREF, ELSE, END, FREE, FUNCTION, GET, GEZ, IF, LANE_OPS, LOAD,
                      MOVE, OFFSET, PEEK, POKE, PUT, REFER, RETURN, SET, SETF, STORE, WHERE, WHILE, WORD)
 
@@ -77,6 +78,12 @@ def fresh(data, **sizes):
 def state(data, m=None, **sizes):
     c = sized(RUN, data, **sizes)
     c.machine = m or Machine()
+    return c
+
+
+def stepped(c):
+    """The same state, handed to the public step."""
+    c.sort, c.budget, c.style = STEP, 1, c.style and "step"
     return c
 
 
@@ -342,9 +349,11 @@ class Maker:
         m = c.machine
         m.position = r.randint(0, len(ops)) if r.random() < 0.5 else 0
         m.halted = int(r.random() < 0.02)
-        m.counted = r.choice([0, 1, len(c.tape), len(c.tape), 29_999, 30_000, 100_000, 100_000, 100_000, 100_000, 130_000])
+        # how far its cells hold something; no run leaves a length under 30,000 but 0
+        reach = r.choice([0, 1, len(c.tape), len(c.tape), 29_999, 30_000, 100_000, 100_000, 100_000, 100_000, 130_000])
+        m.counted = max(reach, 30_000) if reach else 0
         m.pointer = r.choice([0, 0, 0, 1, 2, 5, 5, 5, len(c.tape) // 2, max(0, len(c.tape) - 1), len(c.tape), 99_999])
-        reach = min(m.counted, len(c.tape))
+        reach = min(reach, len(c.tape))
         for i in range(min(reach, 24)):
             if r.random() < 0.7:
                 c.tape[i] = self.value(floats) if r.random() < 0.6 else r.randrange(12)
@@ -372,7 +381,7 @@ class Maker:
         self.dirt(c.outputs, 0.2)
         if r.random() < 0.02 and reach < len(c.tape):
             c.tape[r.randrange(reach, len(c.tape))] = 1 + r.randrange(5)
-            c.style = "lent cells not zero"
+            m.counted, c.style = 0, "lent cells not zero"
         return c
 
     def edge(self):
@@ -569,8 +578,17 @@ class Maker:
 
 def randoms(seed, count):
     maker = Maker(seed)
-    for _ in range(count):
-        yield maker.case()
+    for i in range(count):
+        c = maker.case()
+        yield c
+        # some of the states also for a step, and some with a length that no run leaves
+        if c.sort == RUN and i % 8 == 0:
+            yield stepped(copy.copy(c))
+        if c.sort == RUN and i % 32 < 2:
+            short = copy.copy(c)
+            short.machine, short.style = c.machine.copy(), "short tape"
+            short.machine.counted = 1 + 7919 * i % 29_999
+            yield short if i % 2 else stepped(short)
 
 
 # ---- around every limit
@@ -633,9 +651,9 @@ def boundary():
         if kind in COUNTED or kind == OFFSET:
             held = (9,) if kind == OFFSET else ()
             for lanes, n in ((0, 0), (0, 1), (1, 1), (1, 2), (2, 2), (3, 2)):
-                for counted, tape in ((0, 4), (1, 4), (2, 4), (2, 1), (100, 1), (100, 2)):
+                for counted, tape, pointer in ((0, 4, 0), (30_000, 4, 0), (30_000, 2, 0), (30_000, 1, 0), (30_000, 4, 29_998), (30_000, 4, 29_999)):
                     c = state(op(kind, *held, n), tape=tape)
-                    c.machine.lanes, c.machine.counted = lanes, counted
+                    c.machine.lanes, c.machine.counted, c.machine.pointer = lanes, counted, pointer
                     c.register[:3] = [6, WORD - 8, 5]
                     c.tape[:min(2, counted, tape)] = [3, WORD - 1][:min(2, counted, tape)]
                     yield c
@@ -653,19 +671,19 @@ def boundary():
             c.machine.pointer = at
             yield c
     for cell in (0, 1, 999_999_999, 1_000_000_000, 1_000_000_001, WORD, 1 << 63, (1 << 63) - 1):
-        for counted in (0, 1, 5):
+        for counted in (0, 30_000, 100_000):
             c = state(op(DEREF) + op(REFER) + op(REFER), tape=1)
             c.machine.counted = counted
             c.tape[0] = cell if counted else 0
             yield c
-    for counted in (0, 29_999, 30_000, 1_999_970_000, 1_999_999_999, 2_000_000_000):
+    for counted in (0, 30_000, 30_001, 1_999_970_000, 1_999_999_999, 2_000_000_000):
         for more in (0, 1, 2, 29_999, 30_000, 30_001, 1_999_970_000, 1_999_970_001, 2_000_000_000, WORD, 1 << 63, (1 << 63) - 1):
             c = state(op(SET, more) + op(ALLOC) + op(ALLOC))
             c.machine.counted = counted
             yield c
     for pointer, n in ((0, 0), (0, 1), (99_999, 0), (99_999, 1), (100_000, 0), (99_998, 1), (199_999, 1), (250_000, 0), (3, 1), (4, 1)):
         for kind in (LOAD, STORE):
-            for counted in (0, 4, 5, 100_000):
+            for counted in (0, 30_000, 30_001, 100_000):
                 c = state(op(kind, n), tape=4)
                 c.machine.pointer, c.machine.counted = pointer, counted
                 yield c
@@ -719,6 +737,7 @@ def boundary():
 
     yield from telling()
     yield from openings()
+    yield from lengths()
 
 
 # ---- routines opened in an order
@@ -758,6 +777,40 @@ def openings():
             yield c
 
 
+def lengths():
+    """States of every length around the first allocation, handed to a run and to a step: 1 to 29,999 is 37 (02, ask 12), and then nothing that is
+    lent has changed. Every slice holds something, but for the cells beyond the length."""
+    patches = [b"", op(FREE), op(ALLOC), op(SET, 5) + op(ALLOC) + op(ALLOC), op(LOAD, 1), op(STORE, 2), op(model01.ADD, 1), op(DEREF),
+               op(FUNCTION) + op(END) + op(PEEK)]
+    for counted in (0, 1, 2, 14, 29_998, 29_999, 30_000, 30_001):
+        for data in patches:
+            for call in (lambda c: c, stepped):
+                c = state(data, tape=16, inputs=(49,), room=4)
+                m = c.machine
+                m.counted, m.lanes, m.waiting, m.written = counted, 3, 2, 1
+                c.tape[:min(counted, 16)] = [2 + i for i in range(min(counted, 16))]
+                c.register[:5] = [1, 2, 3, 4, 5]
+                c.table[:3] = [9, 8, 7]
+                c.channel[:4] = [11, 12, 13, 14]
+                c.outputs[:] = [21, 22, 23, 24]
+                yield call(c)
+        # the file is read first, and a machine at its end has the test too
+        for data, numbers in ((op(FREE)[:5], {}), (op(FREE), dict(halted=1)), (op(FREE), dict(position=1)), (op(FREE), dict(pointer=1_000_000_001))):
+            for call in (lambda c: c, stepped):
+                c = at_limit(data, counted=counted, **numbers)
+                yield call(c)
+    # the end of a length that the lent tape reaches beyond
+    for pointer in (29_998, 29_999, 30_000):
+        for kind in (LOAD, STORE, model01.ADD, model01.SWAP):
+            for n in (0, 1, 2):
+                for counted in (0, 30_000, 30_001):
+                    c = state(op(kind, n), tape=30_002)
+                    c.machine.pointer, c.machine.counted = pointer, counted
+                    c.register[:2] = [6, 7]
+                    c.tape[29_998:counted] = [3, 4, 5][:max(0, counted - 29_998)]
+                    yield c
+
+
 def telling():
     """Where a wrong reading would show: brackets that are left, spaces of input, lanes at the ends of their range."""
     put = op(PUT, 1)
@@ -795,7 +848,7 @@ def telling():
                 c.tape[1:13] = values[turn:] + values[:turn]
             elif turn:
                 c.register[:12] = [(v + turn) & WORD for v in values]
-            c.machine.pointer, c.machine.lanes, c.machine.counted = 1, 12, 14
+            c.machine.pointer, c.machine.lanes, c.machine.counted = 1, 12, 30_000
             yield c
 
 
@@ -852,6 +905,8 @@ def smallest():
     yield "stack limit", "went", at_limit(op(DEREF), refs=[0] * 256)
     yield "channel limit", "went", at_limit(op(POKE), waiting=256)
     yield "output room", "went", fresh(op(PUT, 0), room=0)
+    yield "short tape", "port", at_limit(op(ALLOC), counted=1)
+    yield "short tape", "port", stepped(at_limit(op(LOAD, 1), counted=29_999))
     yield "stray End", "panic", flattening(op(END))
     yield "both refuse", "err", fresh(op(MOVE, -1))
     yield "both refuse", "err", fresh(op(REFER))
@@ -894,6 +949,9 @@ def rusts_own():
     for kind in (model01.DIV, model01.REM):
         passed = said(fresh(op(LOAD, 1) + op(kind, 2), tape=2), 2, 0, [0], position=2, lanes=1, counted=100_000)
         yield "divisor before lane", passed
+    yield "short tape", said(at_limit(op(ALLOC), counted=1), 1, 0, [30_000], position=1, counted=30_001)
+    yield "short tape", said(at_limit(op(ALLOC), counted=29_999), 1, 0, [59_998], position=1, counted=59_999)
+    yield "short tape", said(at_limit(op(LOAD, 1), counted=29_999), 1, 0, [0], position=1, lanes=1, counted=29_999)
     yield "lent tape", said(fresh(op(LOAD, 1)), 1, 0, [0], position=1, lanes=1, counted=100_000)
 
 

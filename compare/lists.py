@@ -11,8 +11,10 @@ import sys
 sys.path.insert(0, os.path.join(os.path.dirname(os.path.abspath(__file__)), "..", "tools"))
 import command
 
-RUN, FRESH, JOIN, FLATTEN, CHECK = range(5)
-SORTS = ["run", "fresh run", "join", "flatten", "check"]
+RUN, FRESH, JOIN, FLATTEN, CHECK, STEP = range(6)
+SORTS = ["run", "fresh run", "join", "flatten", "check", "step"]
+# those that run a patch, and of them those that are handed a state
+RUNS, FROM_STATE = (RUN, FRESH, STEP), (RUN, STEP)
 NUMBERS = ["position", "pointer", "counted", "halted", "lanes", "functions", "first", "waiting", "taken", "written"]
 SLICES = ["tape", "register", "table", "channel", "outputs"]
 NAMES = {
@@ -89,12 +91,12 @@ def write(case):
     """The bytes of a case with its expected answer."""
     a = case.answer
     out = [bytes([case.sort]), u32(len(case.patch)), case.patch]
-    if case.sort in (RUN, FRESH):
+    if case.sort in RUNS:
         out += [u32(case.budget), u32(len(case.inputs)), struct.pack("<%dQ" % len(case.inputs), *case.inputs)]
         for name in SLICES:
             values = getattr(case, name)
             out += [u32(len(values)), sparse(values)]
-        if case.sort == RUN:
+        if case.sort in FROM_STATE:
             out.append(write_machine(case.machine))
         out += [struct.pack("<3I", a.number, a.steps, a.place), write_machine(a.machine)]
         out += [sparse(getattr(a, name)) for name in SLICES]
@@ -157,12 +159,12 @@ def read(data):
         sort = data[r.at]
         r.at += 1
         c = Case(sort, r.counted())
-        if sort in (RUN, FRESH):
+        if sort in RUNS:
             c.budget = r.u32()
             c.inputs = r.numbers("Q", r.u32())
             for name in SLICES:
                 setattr(c, name, r.sparse(r.u32()))
-            if sort == RUN:
+            if sort in FROM_STATE:
                 c.machine = r.machine()
             number, steps, place = r.numbers("I", 3)
             a = Answer(number, place)
@@ -254,10 +256,10 @@ def machine_words(m):
 def show(c):
     a = c.answer
     out = [SORTS[c.sort], "  patch: %s" % patch_words(c.patch)]
-    if c.sort in (RUN, FRESH):
+    if c.sort in RUNS:
         out.append("  budget %d, inputs %s" % (c.budget, [signed(v) for v in c.inputs]))
         out += ["  %s %s" % (name, slice_words(getattr(c, name))) for name in SLICES]
-        if c.sort == RUN:
+        if c.sort in FROM_STATE:
             out.append("  from: " + machine_words(c.machine))
         if a:
             out.append("  expected: number %d, %d steps, place %d" % (a.number, a.steps, a.place))

@@ -1,4 +1,4 @@
-"""The machine, the check, joining and flattening as document 01 and its readings tell them: the second judge.
+"""The machine, the check, joining and flattening as document 01, what 02 has corrected in it, and the readings tell them: the second judge.
 
 It is written to be read beside 01, one rule after the other, and answers every number of 01's table. It shares no code with the Rust
 or with our machine, but it was written with the Rust's text known, and the readings had been tried on the Rust: that the two agree is no
@@ -7,12 +7,14 @@ sign that 01 can be read in one way only. `answer(case)` gives the expected answ
 import math
 import struct
 
-from lists import CHECK, FLATTEN, FRESH, JOIN, RUN, SLICES, Answer, Machine
+from lists import CHECK, FLATTEN, FRESH, JOIN, RUNS, SLICES, STEP, Answer, Machine
 
 # "Limits, each the last accepted"
 FILE, OPS, MARKS, LANES, DEPTH = 65536, 4096, 256, 1024, 256
 FARTHEST, LONGEST = 1_000_000_000, 2_000_000_000
 BLOCK = 100_000
+# 02, ask 12: what a tape grows by from nothing, so that none has 1 to 29,999 cells
+FIRST = 30_000
 WORD = (1 << 64) - 1
 LEAST = 1 << 63
 NAN = 0x7FF8000000000000
@@ -237,6 +239,8 @@ def is_state(ops, c, m):
         return False
     if m.pointer > FARTHEST or m.counted > LONGEST or m.lanes > LANES or m.functions > MARKS:
         return False
+    if 0 < m.counted < FIRST:
+        return False
     if len(m.calls) > DEPTH or len(m.refs) > DEPTH or m.waiting > DEPTH or m.first >= DEPTH:
         return False
     if m.position > len(ops) or m.taken > len(c.inputs) or m.written > len(c.outputs):
@@ -382,7 +386,7 @@ def step(ops, inputs, m, s):
     elif kind == WHERE:
         reg[0] = m.pointer
     elif kind == ALLOC:
-        length = m.counted + (30000 if m.counted < 30000 else 0)
+        length = FIRST if m.counted == 0 else m.counted
         more = signed(reg[0])
         if more < 0 or length + more > LONGEST:
             return 30
@@ -430,7 +434,7 @@ def step(ops, inputs, m, s):
 
 
 def run(c):
-    """A run from a state, or the fresh run."""
+    """A run from a state, a step, which is a run of one step, or the fresh run."""
     a = Answer(0, 0)
     a.steps = 0
     for name in SLICES:
@@ -450,7 +454,8 @@ def run(c):
         if m.halted or m.position == len(ops):
             return a
         if a.steps == c.budget:
-            a.number = 50
+            # a step that was made is 0
+            a.number = 0 if c.sort == STEP else 50
             return a
         a.number = step(ops, c.inputs, m, a)
         if a.number:
@@ -610,6 +615,6 @@ def flatten(c):
 
 
 def answer(c):
-    if c.sort in (RUN, FRESH):
+    if c.sort in RUNS:
         return run(c)
     return {JOIN: join, FLATTEN: flatten, CHECK: lambda c: check(c.patch)}[c.sort](c)

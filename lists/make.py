@@ -20,8 +20,8 @@ import model01  # noqa: E402
 import plant  # noqa: E402
 
 # of every style of random case so many, none of more bytes than this; full stacks are longer
-STYLES = {"soup": 130, "bracketed": 150, "checked": 170, "soup floats": 60, "bracketed floats": 60, "checked floats": 80, "mid-state": 260,
-          "boundary": 80, "no state": 50, "lent room": 10, "lent cells not zero": 6, "file": 60, "check": 60}
+STYLES = {"soup": 130, "bracketed": 150, "checked": 170, "soup floats": 60, "bracketed floats": 60, "checked floats": 80, "mid-state": 260, "step": 60,
+          "boundary": 80, "no state": 50, "short tape": 20, "lent room": 10, "lent cells not zero": 6, "file": 60, "check": 60}
 LONG = 800
 FULL = 2600
 # every number of the paper's table, each at least so often
@@ -80,6 +80,9 @@ def replay_list(judge):
             keep(c, data)
     # routines opened in both orders, and the table that is full
     for c, data, _ in settled(judge, generate.openings()):
+        keep(c, data)
+    # lengths around the first allocation, by a run and by a step
+    for c, data, _ in settled(judge, generate.lengths()):
         keep(c, data)
     for c, data, _ in settled(judge, generate.randoms(2026, 16_000)):
         s = style(c)

@@ -29,6 +29,10 @@ farthest = 1_000_000_000
 abbrev pub longest : ℕ
 longest = 2_000_000_000
 
+-- 02, ask 12: "a tape grows from nothing by 30,000 or by 100,000 and never shrinks", so this is the least length of a tape that has grown
+abbrev pub firstBlock : ℕ
+firstBlock = 30_000
+
 -- "Comment 0 to 255 bytes"
 abbrev pub mostText : ℕ
 mostText = 255

@@ -37,7 +37,7 @@ reach-is l e = byCase (ltb e l) (λ q. rw q refl) (λ q. rw q refl)
 
 stocked-is : (l : ℕ) → stocked l ≡ grown l
 unfolding stocked pick
-stocked-is l = byCase (ltb l 30_000) (λ q. rw q refl) (λ q. rw q refl)
+stocked-is l = byCase (eqb l 0) (λ q. rw q refl) (λ q. rw q refl)
 
 module _ (g : Given) (c : Held) (h : Counted c) where
   -- an op that does nothing but go on

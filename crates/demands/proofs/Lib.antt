@@ -11,3 +11,4 @@ pub mod Kept
 pub mod Demand3
 pub mod Coincide
 pub mod OneTable
+pub mod Lengths

@@ -1,2 +1,3 @@
 pub mod Reached
 pub mod ReachedBy
+pub mod AnyCalls

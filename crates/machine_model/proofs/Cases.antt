@@ -113,6 +113,7 @@ tapes =
     ∷ ran (one 3 ∷ plain (store 1) ∷ plain (offset 4 1) ∷ plain (cell Add 1) ∷ plain deref ∷ plain (store 1) ∷ plain refer ∷ load 4 ∷ out ∷ plain (move 3) ∷ load 1 ∷ out ∷ [])
     (0 ∷ 12 ∷ 12 ∷ 10 ∷ 3 ∷ 100_000 ∷ 3 ∷ 10 ∷ [])
     ∷ ran (one 5 ∷ plain alloc ∷ []) (0 ∷ 2 ∷ 2 ∷ 29_999 ∷ 0 ∷ 30_005 ∷ [])
+    ∷ ran (plain alloc ∷ plain alloc ∷ []) (0 ∷ 2 ∷ 2 ∷ 29_999 ∷ 0 ∷ 59_999 ∷ [])
     ∷ ran (one 1_999_970_000 ∷ plain alloc ∷ plain (move 1_000_000_000) ∷ []) (0 ∷ 3 ∷ 3 ∷ 29_999 ∷ 1_000_000_000 ∷ 2_000_000_000 ∷ [])
     ∷ ran (plain (move 3) ∷ plain (move (minus 2)) ∷ plain locate ∷ []) (0 ∷ 3 ∷ 3 ∷ 1 ∷ 1 ∷ 0 ∷ [])
     ∷ []

@@ -2,13 +2,13 @@
 -- words. What steps keep is proved from this, and not of each op again. Assumes nothing.
 use Prim.Native.Nat.{ℕ, zero, suc, _+_, _-_, _*_, _/_, _^_, _≤_, _<_}
 use native.Mathlib.Omega.{arith}
-use borrow.Author.Tests.{ltb-true, ltb-false, lt-ltb, leb-false}
+use borrow.Author.Tests.{ltb-true, ltb-false, lt-ltb, leb-false, ne-eqb}
 use mathlib.Core.Path.{_≡_, refl, ap}
 use mathlib.Core.Bool.{Bool, true, false, cond, _||_}
 use mathlib.Core.List.{List, [], _∷_, _++_, reverse}
 use mathlib.Core.Logic.{_⊎_, inl, inr}
 use mathlib.Core.Option.{Option, none, some}
-use lib.Dec.{leb, ltb}
+use lib.Dec.{leb, ltb, eqb}
 use lib.ListN.{length, take, drop, length-take, length-drop, length-append, length-set}
 use Rattle.basics.proofs.Tests.{or-right}
 use Rattle.lanes.specs.Int.{intAdd}
@@ -31,11 +31,11 @@ use Rattle.testing_device.proofs.Words as device
 use Rattle.testing_device.proofs.Inputs.{Bounded, leading-length, get-bounded}
 use Rattle.testing_device.proofs.Inputs.Bounded.{value}
 use Rattle.testing_device.proofs.Outputs.{put-words}
-use Rattle.machine_model.specs.State.{State, Given, lanes, depth, farthest, longest, lane0, goTo, on, withTable}
+use Rattle.machine_model.specs.State.{State, Given, lanes, depth, farthest, longest, firstBlock, lane0, goTo, on, withTable}
 use Rattle.machine_model.specs.Scan.{opAt, brackets, functions, toOpen, kth}
 use Rattle.machine_model.specs.Step.{Outcome, bar, enter, jump, endOf, elseOf, called, found, back, again, turn, minus, cover, beyond, cells, grown, referTo, moveBy, gotten, peekAt, act, exec, op, step}
 use Rattle.machine_model.specs.Step.Outcome.{next}
-use Rattle.machine_model.specs.Formed.{Each, Rising, Formed}
+use Rattle.machine_model.specs.Formed.{Each, Rising, Whole, Formed}
 use Rattle.machine_model.specs.Words.{Word, Words}
 use Rattle.machine_model.proofs.Each.{each-part, each-end, each-take, each-at, each-getD, each-map, each-zip}
 use Rattle.machine_model.proofs.Scans.{isControl, Landing, function-lands, while-lands, mark-lands, Seeks, end-seeks, else-seeks, kth-is}
@@ -53,12 +53,24 @@ cover-short p n h l = by (ltb p n) refl
     by true e = l
     by false e = omega (arith, ltb-false p n e)
 
-grown-le : (n : ℕ) → grown n ≤ n + 30_000
-grown-le n = by (ltb n 30_000)
+grown-le : (n : ℕ) → grown n ≤ n + firstBlock
+grown-le n = by (eqb n 0)
   where
-    by : (b : Bool) → cond b (n + 30_000) n ≤ n + 30_000
+    by : (b : Bool) → cond b firstBlock n ≤ n + firstBlock
     by true = omega arith
     by false = omega arith
+
+-- what grows is whole, as what it grew from was
+cover-whole : (p n : ℕ) → Whole n → Whole (cover p n)
+cover-whole p n w = by (ltb p n)
+  where
+    by : (b : Bool) → Whole (cond b n (n + 100_000 * ((p - n) / 100_000 + 1)))
+    by true = w
+    by false = inr (omega arith)
+
+grown-whole : (n m : ℕ) → Whole n → Whole (grown n + m)
+grown-whole n m (inl e) = rw e (inr (omega arith))
+grown-whole n m (inr l) = rw (ne-eqb n 0 (λ e. omega arith)) (inr (omega arith))
 
 -- n cells from p on, where they do not go beyond the list
 cells-long : (p n : ℕ) (l : List ℕ) → beyond p n (length l) ≡ false → length (take n (drop p l)) ≡ n
@@ -154,12 +166,13 @@ abbrev pub acted : State → ℕ → ℕ → List ℕ → List ℕ → List ℕ 
 acted s p n r m rs ch k os =
     record { at = suc (s .at); pointer = p; counted = n; reg = r; tape = m; table = s .table; calls = s .calls; refs = rs; channel = ch; taken = k; outs = os; halted = s .halted }
 
--- a control op goes on after a place where Q holds, if it does of the saved ones; any other at the next op, and what it changes has the sizes
--- of a well-formed state, and has words if the state had
+-- a control op goes on after a place where Q holds, if it does of the saved ones; any other at the next op, its length is whole if it was, and what
+-- it changes has the sizes of a well-formed state, and has words if the state had
 pub data Effect (g : Given) (Q : ℕ → Type 0) (s : State) : Op → State → Type 0 where
   turns : {c : Control} (j : ℕ) (ts cs : List ℕ) (b : Bool) → (Places (g .ops) Q (s .calls) (s .table) → Q j × Places (g .ops) Q cs ts)
       → Effect g Q s (control c) (turned s j ts cs b)
   acts : {o : Op} (p n : ℕ) (r m rs ch : List ℕ) (k : ℕ) (os : List ℕ) → s .at < length (g .ops) → length r ≡ made o (length (s .reg))
+      → (Whole (s .counted) → Whole n)
       → (Formed g s → Fits o → Sizes g p n rs ch k os × Each (λ x. x ≤ farthest) rs × (Words g s → Values r m ch os)) → Effect g Q s o (acted s p n r m rs ch k os)
 
 module _ (g : Given) (Q : ℕ → Type 0) (lands : (j : ℕ) → Landing (g .ops) j → Q j) (s : State) (within : s .at < length (g .ops)) where
@@ -239,9 +252,14 @@ module _ (g : Given) (Q : ℕ → Type 0) (lands : (j : ℕ) → Landing (g .ops
 
   -- ---- the others
 
-  works : {o : Op} {p n : ℕ} {r m rs ch : List ℕ} {k : ℕ} {os : List ℕ} → length r ≡ made o (length (s .reg))
+  grows : {o : Op} {p n : ℕ} {r m rs ch : List ℕ} {k : ℕ} {os : List ℕ} → length r ≡ made o (length (s .reg)) → (Whole (s .counted) → Whole n)
       → (Formed g s → Fits o → Sizes g p n rs ch k os × Each (λ x. x ≤ farthest) rs × (Words g s → Values r m ch os)) → Does o (next (acted s p n r m rs ch k os))
-  works e h = goes (acts _ _ _ _ _ _ _ _ within e h)
+  grows e w h = goes (acts _ _ _ _ _ _ _ _ within e w h)
+
+  works : {o : Op} {p : ℕ} {r m rs ch : List ℕ} {k : ℕ} {os : List ℕ} → length r ≡ made o (length (s .reg))
+      → (Formed g s → Fits o → Sizes g p (s .counted) rs ch k os × Each (λ x. x ≤ farthest) rs × (Words g s → Values r m ch os))
+      → Does o (next (acted s p (s .counted) r m rs ch k os))
+  works e h = grows e (λ w. w) h
 
   covered : Formed g s → (n : ℕ) → n ≤ lanes → cover (s .pointer + n) (s .counted) ≤ longest
   covered f n h = cover-short (s .pointer + n) (s .counted) (omega arith) (f .short)
@@ -277,13 +295,13 @@ module _ (g : Given) (Q : ℕ → Type 0) (lands : (j : ℕ) → Landing (g .ops
 
   act-does : (p : Plain) → plainNeeds p ≤ length (s .reg) → Does (plain p) (act g p s)
   unfolding act
-  act-does (store n) l = refuses 23 refl (λ _. works refl (λ f h. (omega (arith, covered f n h), f .pointed, λ w. search each-part)))
+  act-does (store n) l = refuses 23 refl (λ _. grows refl (cover-whole _ _) (λ f h. (omega (arith, covered f n h), f .pointed, λ w. search each-part)))
   act-does deref l =
       refuses 32 refl
       (λ d. refuses 23 refl
       (λ _. refuses 26 refl
       (λ _. refuses 25 refl
-      (λ e. works refl
+      (λ e. grows refl (cover-whole _ _)
       (λ f h. let c = cover-short (s .pointer) (s .counted) (omega arith) (f .short) in
       (omega (arith, ltb-false, leb-false, length-append (s .refs) (s .pointer ∷ [])), search each-part, λ w. search))))))
   act-does refer l = refer-does (s .refs) refl
@@ -295,7 +313,7 @@ module _ (g : Given) (Q : ℕ → Type 0) (lands : (j : ℕ) → Landing (g .ops
   act-does (move m) l = move-does m (minus m)
   act-does alloc l =
       refuses 30 refl
-      (λ e. works (length-set (s .reg) 0 _)
+      (λ e. grows (length-set (s .reg) 0 _) (grown-whole (s .counted) (lane0 s))
       (λ f h. let b : Word (grown (s .counted) - 1) = omega (arith, grown-le (s .counted)) in
       (omega (arith, ltb-false longest (grown (s .counted) + lane0 s) (or-right (minus (lane0 s)) _ e)), f .pointed, λ w. search each-part)))
   act-does (get m) l = get-does m (getOf m (g .input) (s .taken)) refl
@@ -316,7 +334,7 @@ module _ (g : Given) (Q : ℕ → Type 0) (lands : (j : ℕ) → Landing (g .ops
   exec-does : (o : Op) → opAt (g .ops) (s .at) ≡ o → needs o ≤ length (s .reg) → Does o (exec g o s)
   unfolding exec
   exec-does (control c) is l = turn-does c is
-  exec-does (load n) is l = refuses 23 refl (λ e. works (cells-long (s .pointer) n (s .tape) e) (λ f h. (omega (arith, covered f n h), f .pointed, λ w. search each-part)))
+  exec-does (load n) is l = refuses 23 refl (λ e. grows (cells-long (s .pointer) n (s .tape) e) (cover-whole _ _) (λ f h. (omega (arith, covered f n h), f .pointed, λ w. search each-part)))
   exec-does (set k vs) is l = works refl (λ f h. (omega arith, f .pointed, λ w. search (below-words vs (h .1))))
   exec-does (plain p) is l = act-does p l
 

@@ -1,7 +1,8 @@
 -- A step leads from a well-formed state to a well-formed state, and so does a run; the fresh state is one. Assumes nothing.
-use Prim.Native.Nat.{ℕ, _≤_, _<_}
+use Prim.Native.Nat.{ℕ, _≤_, _<_, zero-le}
 use native.Mathlib.Omega.{arith}
 use mathlib.Core.Path.{_≡_}
+use mathlib.Core.Logic.{inl}
 use lib.ListN.{length, length-replicate}
 use Rattle.ops.specs.Syntax.{Op}
 use Rattle.ops.specs.Syntax.Op.{control, set, load, plain}
@@ -10,7 +11,7 @@ use Rattle.machine_model.specs.State.{State, Given, fresh, mostMarks, la
 use Rattle.machine_model.specs.Step.{step}
 use Rattle.machine_model.specs.Step.Outcome.{next}
 use Rattle.machine_model.specs.Run.{run}
-use Rattle.machine_model.specs.Formed.{Each, Formed}
+use Rattle.machine_model.specs.Formed.{Each, Whole, Formed}
 use Rattle.machine_model.specs.Limited.{Limited}
 use Rattle.machine_model.proofs.Scans.{landing-below}
 use Rattle.machine_model.proofs.Table.{marks-few}
@@ -30,12 +31,12 @@ module _ (g : Given) (lim : Limited (g .ops)) where
   Inner c = c < length (g .ops)
 
   formed : (t : State) → t .at ≤ length (g .ops) → Places (g .ops) Inner (t .calls) (t .table) → length (t .reg) ≤ lanes
-      → Sizes g (t .pointer) (t .counted) (t .refs) (t .channel) (t .taken) (t .outs) → Each (λ x. x ≤ farthest) (t .refs) → Formed g t
-  formed t a p r z q = let few : length (t .table) ≤ mostMarks = omega (arith, marks-few g (t .table) (p .rising) (p .marked), lim .few-marks) in search
+      → Sizes g (t .pointer) (t .counted) (t .refs) (t .channel) (t .taken) (t .outs) → Each (λ x. x ≤ farthest) (t .refs) → Whole (t .counted) → Formed g t
+  formed t a p r z q w = let few : length (t .table) ≤ mostMarks = omega (arith, marks-few g (t .table) (p .rising) (p .marked), lim .few-marks) in search
 
   effect-formed : (s t : State) (o : Op) → Fits o → Formed g s → Effect g Inner s o t → Formed g t
-  effect-formed s _ _ h f (turns j ts cs b k) = let p = k (search) in formed _ (p .0) (p .1) (f .narrow) (omega arith) (f .pointed)
-  effect-formed s _ o h f (acts p n r m rs ch k os a e z) = formed _ a (search) (omega (arith, made-few o (length (s .reg)) h (f .narrow))) (z f h .0) (z f h .1)
+  effect-formed s _ _ h f (turns j ts cs b k) = let p = k (search) in formed _ (p .0) (p .1) (f .narrow) (omega arith) (f .pointed) (f .whole)
+  effect-formed s _ o h f (acts p n r m rs ch k os a e w z) = formed _ a (search) (omega (arith, made-few o (length (s .reg)) h (f .narrow))) (z f h .0) (z f h .1) (w (f .whole))
 
   -- a step of a patch within the limits leads from a well-formed state to one
   pub step-formed : (s t : State) → Formed g s → step g s ≡ next t → Formed g t
@@ -49,4 +50,4 @@ module _ (g : Given) (lim : Limited (g .ops)) where
 -- the fresh state is well formed, for any patch, input, room and number of cells
 pub fresh-formed : (g : Given) (cells : ℕ) → Formed g (fresh cells)
 unfolding fresh
-fresh-formed g cells = omega (arith, length-replicate {A = ℕ} lanes 0)
+fresh-formed g cells = let n : length (fresh cells .reg) ≤ lanes = omega (arith, length-replicate {A = ℕ} lanes 0) in search (zero-le, inl)

@@ -5,6 +5,7 @@ pub mod Table
 pub mod Outcomes
 pub mod Effects
 pub mod Kept
+pub mod Lengths
 pub mod WordsKept
 pub mod Refused
 pub mod Cases

@@ -3,9 +3,10 @@ use Prim.Native.Nat.{ℕ, _≤_, _<_}
 use mathlib.Core.Path.{_≡_}
 use mathlib.Core.Bool.{true}
 use mathlib.Core.List.{List, [], _∷_}
+use mathlib.Core.Logic.{_⊎_}
 use lib.ListN.{length}
 use Rattle.ops.specs.Syntax.{isFunction}
-use Rattle.machine_model.specs.State.{State, Given, mostMarks, lanes, depth, farthest, longest}
+use Rattle.machine_model.specs.State.{State, Given, mostMarks, lanes, depth, farthest, longest, firstBlock}
 use Rattle.machine_model.specs.Scan.{opAt}
 
 -- every number of the list has the property
@@ -22,11 +23,17 @@ Rising (x ∷ xs) = Each (λ y. x < y) xs × Rising xs
 abbrev pub Marked : Given → ℕ → Type 0
 Marked g t = isFunction (opAt (g .ops) t) ≡ true
 
+-- 02, ask 12: "a tape grows from nothing by 30,000 or by 100,000": the first block is there whole, or nothing is
+abbrev pub Whole : ℕ → Type 0
+Whole n = (n ≡ 0) ⊎ (firstBlock ≤ n)
+
 -- "A state is well formed when its limits hold, position is at most the op count, saved calls are below the op count, saved pointers within
--- limit, the function table rises strictly and names Function marks, input place and output count fit their slices"
+-- limit, the function table rises strictly and names Function marks, input place and output count fit their slices"; and
+-- by 02, ask 12, the well-formed state "excludes those lengths", 1 to 29,999
 pub record Formed (g : Given) (s : State) : Type 0 where
   pub near : s .pointer ≤ farthest
   pub short : s .counted ≤ longest
+  pub whole : Whole (s .counted)
   pub narrow : length (s .reg) ≤ lanes
   pub few-entered : length (s .table) ≤ mostMarks
   pub few-calls : length (s .calls) ≤ depth

@@ -4,7 +4,7 @@ use mathlib.Core.Bool.{Bool, true, false}
 use mathlib.Core.List.{List, []}
 use lib.ListN.{replicate, getD}
 use lib.ListN
-pub use Rattle.basics.specs.Limits.{mostOps, mostMarks, lanes, depth, farthest, longest}
+pub use Rattle.basics.specs.Limits.{mostOps, mostMarks, lanes, depth, farthest, longest, firstBlock}
 use Rattle.ops.specs.Syntax.{Op}
 
 -- what a run is given and does not change: the ops, the input values, and the room for outputs

@@ -21,7 +21,7 @@ use Rattle.testing_device.specs.declared.device.Got.the-variants as got
 use Rattle.testing_device.specs.declared.device.Put.the-variants as put
 use Rattle.testing_device.specs.declared.device.Peeked.the-variants as peeked
 use Rattle.testing_device.specs.declared.device.Poked.the-variants as poked
-use Rattle.machine_model.specs.State.{State, Given, depth, farthest, longest, lane0, goTo, withPointer, withCounted, withReg, withTape, withTable, withCalls, withRefs, withChannel, withTaken, withOuts, halt, on, setLane}
+use Rattle.machine_model.specs.State.{State, Given, depth, farthest, longest, firstBlock, lane0, goTo, withPointer, withCounted, withReg, withTape, withTable, withCalls, withRefs, withChannel, withTaken, withOuts, halt, on, setLane}
 use Rattle.machine_model.specs.Scan.{opAt, brackets, functions, toEnd, toElse, toOpen, kth}
 
 -- what a step gives: the machine is finished, it is refused with a number, or it goes on in the next state
@@ -131,9 +131,10 @@ abbrev pub moveBy : State → ℕ → Bool → Outcome
 moveBy s m true = bar (ltb (s .pointer) (2 ^ 64 - m)) 24 (next (on (withPointer s (s .pointer - (2 ^ 64 - m)))))
 moveBy s m false = bar (ltb farthest (s .pointer + m)) 25 (next (on (withPointer s (s .pointer + m))))
 
--- "length under 30,000 grows by 30,000"
+-- 02, ask 12: "let Alloc test for zero only". This corrects 01's "length under 30,000 grows by 30,000"; on a well-formed state's length the two
+-- are one: `stock-as-before` (proofs/Lengths.antt)
 abbrev pub grown : ℕ → ℕ
-grown n = cond (ltb n 30_000) (n + 30_000) n
+grown n = cond (eqb n 0) firstBlock n
 
 -- ---- in and out
 
@@ -174,7 +175,7 @@ act g (swap n) s =
     (bar (beyond (s .pointer) n (length (s .tape))) 23
     (next (on (withTape (withReg s (cells s n ++ drop n (s .reg))) (stored s n)))))
 act g (move m) s = moveBy s m (minus m)
--- "21, 30; length under 30,000 grows by 30,000; answer length - 1, then grow by lane 0"
+-- "21, 30; .. answer length - 1, then grow by lane 0", where the length is `grown`
 act g alloc s =
     bar (minus (lane0 s) || ltb longest (grown (s .counted) + lane0 s)) 30
     (next (on (withCounted (setLane s (grown (s .counted) - 1)) (grown (s .counted) + lane0 s))))

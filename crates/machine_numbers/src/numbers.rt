@@ -33,6 +33,9 @@ impl Numbers {
 
     pub const LENGTH: usize = 2000000000;
 
+    // The cells that an Alloc gives a tape of none: no length lies between.
+    pub const FIRST_BLOCK: usize = 30000;
+
     pub const CALLS: usize = 256;
 
     pub const REFS: usize = 256;

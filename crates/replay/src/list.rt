@@ -12,7 +12,7 @@ pub const CASE: usize = 327680;
 
 pub const INPUTS: usize = 256;
 
-pub const CELLS: usize = 4096;
+pub const CELLS: usize = 32768;
 
 pub const LANES: usize = 1026;
 

@@ -5,7 +5,7 @@ mod tell; // what is said of a difference
 mod found; // what is found of a case
 mod state; // a machine
 mod slices; // the five slices of a run
-mod run; // runs, fresh and from a state
+mod run; // runs, fresh and from a state, and steps
 mod shape; // joins and flattenings
 
 use crate::found::Found;
@@ -40,10 +40,11 @@ fn check(tell: Tell, file: &[u8], case: &[u8]) -> Found {
 fn by_sort(tell: Tell, sort: u8, file: &[u8], case: &[u8]) -> Found {
     match sort {
         0 => run::replay(tell, sort, file, case),
-        1 => run::replay(tell, sort, file, case),
+        run::FRESH => run::replay(tell, sort, file, case),
         2 => shape::replay_join(tell, file, case),
         3 => shape::replay_flatten(tell, file, case),
         4 => check(tell, file, case),
+        run::STEP => run::replay(tell, sort, file, case),
         _ => Found::Damaged,
     }
 }

@@ -1,4 +1,4 @@
-// A case that is a run, from a state or fresh.
+// A case that is a run, from a state or fresh, or a step.
 use crate::found::Found;
 use crate::found::of_same;
 use crate::list::CELLS;
@@ -20,20 +20,26 @@ use crate::state::after_machine;
 use crate::state::machine_at;
 use crate::state::same_machine;
 use crate::tell::Tell;
+use answers::run::Answer;
 use answers::run::number_of;
 use answers::run::place_of;
 use machine::machine::Machine;
 use machine::machine::Ran;
+use machine::machine::Stepped;
 use streams::part::of_lanes;
 
 const BUDGET: usize = Machine::BUDGET as usize;
 
-// A run from a state has its machine before its answer.
+pub const FRESH: u8 = 1;
+
+pub const STEP: u8 = 5;
+
+// What is handed a state has its machine before its answer.
 fn at_answer(case: &[u8], sort: u8, at: usize) -> usize {
-    if sort == 0 {
-        return after_machine(case, at);
+    if sort == FRESH {
+        return at;
     }
-    at
+    after_machine(case, at)
 }
 
 // Where the contents are that are expected beside the answer at a place.
@@ -64,6 +70,21 @@ fn budget_of(case: &[u8]) -> u32 {
     budget as u32
 }
 
+// A step's answer beside how many were made.
+fn of_step(r: Stepped) -> Ran {
+    let answer = r.answer;
+    let machine = r.machine;
+    let steps = match answer {
+        Answer::Went => 1,
+        _ => 0,
+    };
+    Ran {
+        answer,
+        steps,
+        machine,
+    }
+}
+
 fn start(
     sort: u8,
     case: &[u8],
@@ -77,11 +98,14 @@ fn start(
     output: &mut [u64],
 ) -> Ran {
     let budget = budget_of(case);
-    if sort == 0 {
-        let m = machine_at(case, at);
-        return m.run(file, register, tape, table, channel, input, output, budget);
+    if sort == FRESH {
+        return Machine::run_fresh(file, register, tape, table, channel, input, output, budget);
     }
-    Machine::run_fresh(file, register, tape, table, channel, input, output, budget)
+    let m = machine_at(case, at);
+    if sort == STEP {
+        return of_step(m.step(file, register, tape, table, channel, input, output));
+    }
+    m.run(file, register, tape, table, channel, input, output, budget)
 }
 
 // Lays its storage out, lends as much of it as the case says, runs, and compares.

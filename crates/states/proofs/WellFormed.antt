@@ -2,20 +2,21 @@
 use mathlib.Core.Path.{_≡_, _∙_, refl, ap, sym}
 use mathlib.Core.Bool.{Bool, true, false, _&&_}
 use mathlib.Core.List.{List, [], _∷_, map}
+use mathlib.Core.Logic.{inl, inr}
 use Prim.Native.Nat.{ℕ, _+_, _≤_, _<_}
 use native.Mathlib.Omega.{arith}
 use lib.Dec.{leb, ltb, eqb}
 use lib.ListN.{length, getD, take, List·getD-map}
 use lib.Seq.{length-take-le}
-use borrow.Author.Tests.{leb-true, ltb-true, le-leb, lt-ltb}
-use Rattle.basics.proofs.Tests.{and-left, and-right}
+use borrow.Author.Tests.{leb-true, ltb-true, eqb-true, le-leb, lt-ltb, eq-eqb}
+use Rattle.basics.proofs.Tests.{and-left, and-right, or-first, or-second, or-either}
 use Rattle.ops.specs.Syntax.{Op, isFunction}
 use Rattle.ops.specs.Syntax.Plain.{comment}
 use Rattle.ops.specs.Syntax.Op.{plain}
 use Rattle.testing_device.proofs.Rings.{length-ring}
 use Rattle.machine_model.specs.State.{Given}
 use Rattle.machine_model.specs.Scan.{opAt, functions}
-use Rattle.machine_model.specs.Formed.{Each, Rising, Marked}
+use Rattle.machine_model.specs.Formed.{Each, Rising, Marked, Whole}
 use Rattle.machine_model.proofs.Each.{each-to}
 use Rattle.searches.specs.Found.{rowFunction}
 use Rattle.machine_numbers.specs.declared.numbers.Numbers.{Numbers}
@@ -24,7 +25,7 @@ use Rattle.bridge.specs.Decoded.{codeOf, givenOf}
 use Rattle.bridge.specs.Fits.{Fits}
 use Rattle.bridge.proofs.Control.{Rows}
 use Rattle.bridge.proofs.Decoded.{rows}
-use Rattle.states.specs.Formed.{hasRoom, inLimits, inPlace, allOf, callsBelow, refsWithin, namesFrom, tableNames, isFormed}
+use Rattle.states.specs.Formed.{hasRoom, isWhole, inLimits, inPlace, allOf, callsBelow, refsWithin, namesFrom, tableNames, isFormed}
 
 parts : (a b : Bool) → (a && b) ≡ true → (a ≡ true) × (b ≡ true)
 parts a b e = (and-left a b e, and-right a b e)
@@ -51,6 +52,15 @@ has-room g ts ch r = rw (le-leb _ _ (r .wide), le-leb _ _ (r .tabled), le-leb _ 
 
 -- ---- the limits
 
+whole : (l : ℕ) → isWhole l ≡ true → Whole l
+unfolding isWhole
+whole l e = or-either (eqb l 0) (leb 30_000 l) (Whole l) e (λ z. inl (eqb-true l 0 z)) (λ b. inr (leb-true 30_000 l b))
+
+is-whole : (l : ℕ) → Whole l → isWhole l ≡ true
+unfolding isWhole
+is-whole l (inl z) = or-first (eqb l 0) _ (eq-eqb l 0 z)
+is-whole l (inr b) = or-second (eqb l 0) _ (le-leb 30_000 l b)
+
 pub record Limits (p : Numbers) : Type 0 where
   pub near : p .pointer ≤ 1_000_000_000
   pub short : p .length ≤ 2_000_000_000
@@ -60,12 +70,13 @@ pub record Limits (p : Numbers) : Type 0 where
   pub few-refs : p .saved ≤ 256
   pub few-sent : p .waiting ≤ 256
   pub first : p .first < 256
+  pub whole : Whole (p .length)
 
 pub limits : (p : Numbers) → inLimits p ≡ true → Limits p
 unfolding inLimits
 limits p e =
-    let e7 = parts _ _ e in let e6 = parts _ _ (e7 .0) in let e5 = parts _ _ (e6 .0) in let e4 = parts _ _ (e5 .0) in
-    let e3 = parts _ _ (e4 .0) in let e2 = parts _ _ (e3 .0) in let e1 = parts _ _ (e2 .0) in
+    let e8 = parts _ _ e in let e7 = parts _ _ (e8 .0) in let e6 = parts _ _ (e7 .0) in let e5 = parts _ _ (e6 .0) in
+    let e4 = parts _ _ (e5 .0) in let e3 = parts _ _ (e4 .0) in let e2 = parts _ _ (e3 .0) in let e1 = parts _ _ (e2 .0) in
     record {
       near = leb-true _ _ (e1 .0);
       short = leb-true _ _ (e1 .1);
@@ -75,6 +86,7 @@ limits p e =
       few-refs = leb-true _ _ (e5 .1);
       few-sent = leb-true _ _ (e6 .1);
       first = ltb-true _ _ (e7 .1);
+      whole = whole _ (e8 .1);
     }
 
 in-limits : (p : Numbers) → Limits p → inLimits p ≡ true
@@ -89,6 +101,7 @@ in-limits p l =
       le-leb _ _ (l .few-refs),
       le-leb _ _ (l .few-sent),
       lt-ltb _ _ (l .first),
+      is-whole _ (l .whole),
     ) refl
 
 pub record Within (p : Numbers) (ops inputs outputs : ℕ) : Type 0 where
@@ -194,6 +207,7 @@ module _ (s input : List ℕ) (c : Held) (kc : length (c .calls) ≡ 256) (kr : 
         formed = record {
           near = l .near;
           short = l .short;
+          whole = l .whole;
           narrow = omega (arith, l .narrow, length-take-le (c .numbers .lanes) (c .register) (omega (arith, l .narrow, r .wide)));
           few-entered = omega (arith, l .few-entered, length-take-le (c .numbers .functions) (c .table) (omega (arith, l .few-entered, r .tabled)));
           few-calls = omega (arith, l .few-calls, length-take-le (c .numbers .depth) (c .calls) (omega (arith, l .few-calls, kc)));
@@ -222,6 +236,7 @@ module _ (s input : List ℕ) (c : Held) (kc : length (c .calls) ≡ 256) (kr : 
       (record {
         near = f .near;
         short = f .short;
+        whole = f .whole;
         narrow = omega (arith, f .narrow, length-take-le (c .numbers .lanes) (c .register) (k .lanes));
         few-entered = omega (arith, f .few-entered, length-take-le (c .numbers .functions) (c .table) (k .functions));
         few-calls = k .depth;

@@ -4,7 +4,7 @@ ghost use Prim.Native.Nat.{ℕ, _+_, _≤_, _<_};
 ghost use lib.ListN.{length};
 ghost use Rattle.basics.specs.Limits.{mostOps, depth};
 ghost use Rattle.machine_step.specs.Held.{held};
-ghost use Rattle.states.specs.Formed.{hasRoom, inLimits, inPlace, callsBelow, refsWithin, tableNames, isFormed};
+ghost use Rattle.states.specs.Formed.{hasRoom, isWhole, inLimits, inPlace, callsBelow, refsWithin, tableNames, isFormed};
 use basics::wide::wide_int;
 use basics::wide::wide_short;
 use kind_table::row;
@@ -23,6 +23,16 @@ pub fn has_room(register: &[u64], table: &[u16], channel: &[u64]) -> bool
         return false;
     }
     Poked::CHANNEL <= channel.len()
+}
+
+// A tape has no cells, or its first block at least.
+fn is_whole(l: usize) -> bool
+    ensures { λ r. ⌜ r ≡ isWhole l ⌝ }
+{
+    if l == 0 {
+        return true;
+    }
+    Numbers::FIRST_BLOCK <= l
 }
 
 fn in_limits(h: Numbers) -> bool
@@ -49,7 +59,10 @@ fn in_limits(h: Numbers) -> bool
     if Poked::CHANNEL < h.waiting {
         return false;
     }
-    h.first < Poked::CHANNEL
+    if Poked::CHANNEL <= h.first {
+        return false;
+    }
+    is_whole(h.length)
 }
 
 fn in_place(h: Numbers, ops: usize, inputs: usize, outputs: usize) -> bool

@@ -3,7 +3,7 @@ use mathlib.Core.List.{List}
 use Prim.Native.Nat.{ℕ, _+_, _-_, _*_, _/_, _^_}
 use lib.ListN.{length, getD, set, drop}
 use lib.Dec.{leb, ltb, eqb}
-use Rattle.basics.specs.Limits.{depth, farthest, longest}
+use Rattle.basics.specs.Limits.{depth, farthest, longest, firstBlock}
 use Rattle.basics.specs.Pick.{pick}
 use Rattle.kind_table.specs.Rows as row
 use Rattle.lane_loops.specs.Loops.{zipTo, beside}
@@ -70,13 +70,10 @@ unfoldable pub referOf : Numbers → List ℕ → OpAnswer
 unfolding pick
 referOf p rs = pick (eqb (p .saved) 0) (answered 27 p) (answered 0 (next (atPointer (ofSaved p (p .saved - 1)) (getD rs (p .saved - 1) 0))))
 
-abbrev pub firstBlock : ℕ
-firstBlock = 30_000
-
--- "length under 30,000 grows by 30,000"
+-- 02, ask 12: "let Alloc test for zero only"
 unfoldable pub stocked : ℕ → ℕ
 unfolding pick
-stocked l = pick (ltb l firstBlock) (l + firstBlock) l
+stocked l = pick (eqb l 0) firstBlock l
 
 -- "Alloc: 21, 30; .. answer length - 1, then grow by lane 0"
 unfoldable pub allocOf : Numbers → List ℕ → OneList

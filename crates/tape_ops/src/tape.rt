@@ -5,7 +5,7 @@ ghost use lib.ListN.{length};
 ghost use Rattle.basics.specs.Limits.{mostOps, lanes, depth, farthest, longest};
 ghost use Rattle.machine_numbers.specs.Asks.{InReach, PayloadIn};
 ghost use Rattle.machine_numbers.specs.Numbers.{ofLength, next, answered, oneList, taped};
-ghost use Rattle.tape_ops.specs.Tape.{firstBlock, reach, setOf, loadOf, storeOf, moveOf, whereOf, derefOf, referOf, stocked, allocOf, tapeOf};
+ghost use Rattle.tape_ops.specs.Tape.{reach, setOf, loadOf, storeOf, moveOf, whereOf, derefOf, referOf, stocked, allocOf, tapeOf};
 use basics::wide::wide_int;
 use kind_table::row;
 use machine_numbers::cells::had;
@@ -18,9 +18,6 @@ const FARTHEST: u64 = Numbers::POINTER as u64;
 
 // The cells by which the counted length grows, once or more often.
 const GROWTH: usize = 100000;
-
-// The cells by which an Alloc first lengthens a tape that has fewer.
-const FIRST_BLOCK: usize = 30000;
 
 // How far below zero a two's complement number stands.
 fn size_of_negative(a: u64) -> usize
@@ -55,10 +52,10 @@ fn reached(mut h: Numbers, n: usize) -> OpAnswer
 // The counted length that an Alloc begins with.
 fn stock(l: usize) -> usize
     requires { ⌜ l ≤ longest ⌝ }
-    ensures { λ r. ⌜ (r ≡ stocked l) × (r ≤ longest + firstBlock) × (firstBlock ≤ r) ⌝ }
+    ensures { λ r. ⌜ (r ≡ stocked l) × (r ≤ longest) × (0 < r) ⌝ }
 {
-    if l < FIRST_BLOCK {
-        return l + FIRST_BLOCK;
+    if l == 0 {
+        return Numbers::FIRST_BLOCK;
     }
     l
 }
