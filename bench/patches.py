@@ -6,7 +6,7 @@ import sys
 
 sys.path.insert(0, os.path.join(os.path.dirname(os.path.abspath(__file__)), "..", "compare"))
 from generate import from_the_last, in_order, op
-from model01 import (ADD, ADDF, AND, ARSH, BAND, BNOT, BOR, BXOR, CALL, DEC, DEREF, DIV, DIVF, ELSE, END, FUNCTION, GET, GEZ, GEZF, IF,
+from model01 import (ADD, ADDF, ALLOC, AND, ARSH, BAND, BNOT, BOR, BXOR, CALL, DEC, DEREF, DIV, DIVF, ELSE, END, FUNCTION, GET, GEZ, GEZF, IF,
                      INC, INDEX, LOAD, LRSH, LSH, MOVE, MUL, MULF, NAND, NEG, NEGF, NOT, OFFSET, OR, PUT, REFER, REM, REMF, RETURN, SET,
                      SETF, STORE, SUB, SUBF, SWAP, TOFLOAT, TOINT, WHERE, WHILE)
 
@@ -69,6 +69,11 @@ def derefs():
     out = [op(MOVE, 16), op(SET, *[16 + (i + 3) % 8 for i in range(8)]), op(STORE, 8), op(MOVE, -16)]
     body = [op(MOVE, 16)] + [op(DEREF)] * 8 + [op(LOAD, 1)] + [op(REFER)] * 8 + [op(MOVE, -16)]
     return out + loop(16_000, body) + shown(16, 2)
+
+
+def allocs():
+    """A tape that is given its first block, then one cell at a time, with the length asked for in between."""
+    return [op(SET, 0), op(ALLOC)] + loop(20_000, [op(SET, 1), op(ALLOC), op(SET, 0), op(ALLOC)]) + [op(SET, 0), op(ALLOC), op(PUT, 0)]
 
 
 def integers(n, seed=1):
@@ -169,6 +174,7 @@ def runs():
     yield "256 routines, in order", in_order(256), [], 0
     yield "256 routines, last first", from_the_last(256), [], 0
     yield "deref chains", derefs(), [], 2
+    yield "allocations", allocs(), [], 1
     for n in (1, 8, 64, 1024):
         yield "integer lanes, %d" % n, int_lanes(n), [], 4
     for n in (1, 8, 64, 1024):

@@ -6,6 +6,7 @@ use lib.Dec.{eqb}
 use lib.ListN.{length}
 use Rattle.basics.proofs.Tests.{byCase}
 use Rattle.answers.specs.Run.{numberOf}
+use Rattle.machine_model.specs.State.{State, Given}
 use Rattle.machine_model.specs.Step.{Outcome, step}
 use Rattle.machine_model.specs.Step.Outcome.{finished, refused, next}
 use Rattle.machine_model.proofs.Kept.{step-formed}
@@ -21,23 +22,35 @@ use Rattle.machine.proofs.StepIsARun.{onceOf}
 
 -- ---- a run
 
-module _ (s input : List ℕ) (y : Bytes s) where
-  drive-fits : (room n k : ℕ) (c : Held) (o : Outcome) → Fits s input c → length (c .output) ≡ room → step (givenOf s input room) (view c) ≡ o
-      → Fits s input (driveLaid (givenOf s input room) n k c o .held)
-  unfolding driveLaid givenOf
-  drive-fits room zero k c finished h r e = h
-  drive-fits room zero k c (refused m) h r e = h
-  drive-fits room zero k c (next t) h r e = h
-  drive-fits room (suc n) k c finished h r e = h
-  drive-fits room (suc n) k c (refused m) h r e = h
-  drive-fits room (suc n) k c (next t) h r e =
-      let own = length (c .output) in
-      let f = step-formed (givenOf s input own) (limited s y input own) (view c) t (h .formed) (ap (λ (m : ℕ). step (givenOf s input m) (view c)) r ∙ e) in
-      drive-fits room n (suc k) (lay t c) _ (lay-fits s input t c h f) (lay-room t c (f .fits) ∙ r) refl
+-- what each step keeps of what is held, a run keeps
+module _ (g : Given) (P : Held → Type 0) (leads : (c : Held) (t : State) → P c → step g (view c) ≡ next t → P (lay t c)) where
+  drive-keeps : (n k : ℕ) (c : Held) (o : Outcome) → P c → step g (view c) ≡ o → P (driveLaid g n k c o .held)
+  unfolding driveLaid
+  drive-keeps zero k c finished h e = h
+  drive-keeps zero k c (refused m) h e = h
+  drive-keeps zero k c (next t) h e = h
+  drive-keeps (suc n) k c finished h e = h
+  drive-keeps (suc n) k c (refused m) h e = h
+  drive-keeps (suc n) k c (next t) h e = drive-keeps n (suc k) (lay t c) _ (leads c t h e) refl
 
-  pub run-fits : (n : ℕ) (c : Held) → Fits s input c → Fits s input (runLaid (givenTo s input c) n c .held)
+  pub run-keeps : (n : ℕ) (c : Held) → P c → P (runLaid g n c .held)
   unfolding runLaid
-  run-fits n c h = drive-fits (length (c .output)) n 0 c _ h refl refl
+  run-keeps n c h = drive-keeps n 0 c _ h refl
+
+module _ (s input : List ℕ) (y : Bytes s) (room : ℕ) where
+  -- it fits the patch, and has the room that the run was given
+  abbrev Roomy : Held → Type 0
+  Roomy c = Fits s input c × (length (c .output) ≡ room)
+
+  step-fits : (c : Held) (t : State) → Roomy c → step (givenOf s input room) (view c) ≡ next t → Roomy (lay t c)
+  unfolding givenOf
+  step-fits c t h e =
+      let own = length (c .output) in
+      let f = step-formed (givenOf s input own) (limited s y input own) (view c) t (h .0 .formed) (ap (λ (m : ℕ). step (givenOf s input m) (view c)) (h .1) ∙ e) in
+      (lay-fits s input t c (h .0) f, lay-room t c (f .fits) ∙ h .1)
+
+pub run-fits : (s input : List ℕ) → Bytes s → (n : ℕ) (c : Held) → Fits s input c → Fits s input (runLaid (givenTo s input c) n c .held)
+run-fits s input y n c h = run-keeps (givenTo s input c) (Roomy s input y (length (c .output))) (step-fits s input y (length (c .output))) n c (h, refl) .0
 
 -- ---- a step
 

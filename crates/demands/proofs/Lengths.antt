@@ -4,7 +4,7 @@ use mathlib.Core.Path.{_≡_, refl, sym, subst}
 use mathlib.Core.Bool.{Bool, true, false}
 use mathlib.Core.List.{List}
 use mathlib.Core.Logic.{inl, inr}
-use Prim.Native.Nat.{ℕ, zero, suc, _<_}
+use Prim.Native.Nat.{ℕ, _<_}
 use native.Mathlib.Omega.{arith}
 use borrow.Author.Tests.{eq-eqb}
 use lib.Dec.{eqb}
@@ -21,12 +21,13 @@ use Rattle.machine_model.proofs.Lengths.{step-whole, run-whole}
 use Rattle.machine_step.specs.Held.{Slices, Held}
 use Rattle.bridge.specs.View.{view, lay}
 use Rattle.bridge.specs.Decoded.{codeOf, givenTo}
-use Rattle.bridge.specs.Run.{Ran, ran, driveLaid, runLaid}
+use Rattle.bridge.specs.Run.{Ran, ran}
 use Rattle.states.specs.Formed.{hasRoom, inLimits, isFormed}
 use Rattle.states.proofs.WellFormed.{limits}
 use Rattle.machine.specs.Fresh.{freshOf}
 use Rattle.machine.specs.Calls.{Shown, shown, shownOf, lent, calling, stepLaid, stepCall, runCall, freshOn, freshCall}
 use Rattle.machine.specs.declared.machine.Machine.{Machine}
+use Rattle.demands.proofs.Kept.{run-keeps}
 use Rattle.demands.specs.AnyCalls.{FromFresh, HandedBack}
 use Rattle.demands.specs.AnyCalls.FromFresh.{at-first, run-on}
 use Rattle.demands.specs.AnyCalls.HandedBack.{by-fresh, by-run, by-step}
@@ -41,27 +42,19 @@ lengths-reached s (run-on t g b r) = run-whole g b t (lengths-reached t r)
 
 -- ---- the code
 
-abbrev Held-whole : Held → Type 0
-Held-whole c = Whole (c .numbers .length)
+-- of the machine that is held
+abbrev WholeIn : Held → Type 0
+WholeIn c = Whole (c .numbers .length)
 
 module _ (g : Given) where
-  lay-whole : (c : Held) (t : State) → Held-whole c → step g (view c) ≡ next t → Held-whole (lay t c)
+  lay-whole : (c : Held) (t : State) → WholeIn c → step g (view c) ≡ next t → WholeIn (lay t c)
   unfolding lay
   lay-whole c t w e = step-whole g (view c) t w e
 
-  shown-whole : (c : Held) (o : Outcome) → Held-whole c → step g (view c) ≡ o → Held-whole (shownOf c o .held)
+  shown-whole : (c : Held) (o : Outcome) → WholeIn c → step g (view c) ≡ o → WholeIn (shownOf c o .held)
   shown-whole c finished w e = w
   shown-whole c (refused n) w e = w
   shown-whole c (next t) w e = lay-whole c t w e
-
-  drive-whole : (n k : ℕ) (c : Held) (o : Outcome) → Held-whole c → step g (view c) ≡ o → Held-whole (driveLaid g n k c o .held)
-  unfolding driveLaid
-  drive-whole zero k c finished w e = w
-  drive-whole zero k c (refused m) w e = w
-  drive-whole zero k c (next t) w e = w
-  drive-whole (suc n) k c finished w e = w
-  drive-whole (suc n) k c (refused m) w e = w
-  drive-whole (suc n) k c (next t) w e = drive-whole n (suc k) (lay t c) _ (lay-whole c t w e) refl
 
 -- what holds of a call's refusals and of its work holds of the call
 calling-keeps : {A : Type 0} (P : A → Type 0) (s : List ℕ) (test : Bool) (refuse : Answer → A) (work : A) → ((a : Answer) → P (refuse a)) → P work
@@ -73,22 +66,22 @@ calling-keeps P s test refuse work h k =
 
 -- whatever files the calls were given, and whatever they were lent
 pub lengths-handed-back : (m : Machine) → HandedBack m → Whole (m .numbers .length)
-unfolding freshCall runCall stepCall runLaid freshOf
+unfolding freshCall runCall stepCall freshOf
 lengths-handed-back _ (by-fresh s input b l n r e) =
-    subst (λ (a : Ran). Held-whole (a .held)) (sym e)
-    (calling-keeps (λ (a : Ran). Held-whole (a .held)) s (hasRoom (l .register) (l .table) (l .channel)) (λ a. ran a 0 (lent freshOf l)) _
+    subst (λ (a : Ran). WholeIn (a .held)) (sym e)
+    (calling-keeps (λ (a : Ran). WholeIn (a .held)) s (hasRoom (l .register) (l .table) (l .channel)) (λ a. ran a 0 (lent freshOf l)) _
     (λ a. inl refl)
-    (drive-whole (givenTo s input (freshOn l)) b 0 (freshOn l) _ (inl refl) refl))
+    (run-keeps (givenTo s input (freshOn l)) WholeIn (lay-whole (givenTo s input (freshOn l))) b (freshOn l) (inl refl)))
 lengths-handed-back _ (by-run m s input b l n r h e) =
     let w = lengths-handed-back m h in let c = lent m l in
-    subst (λ (a : Ran). Held-whole (a .held)) (sym e)
-    (calling-keeps (λ (a : Ran). Held-whole (a .held)) s (isFormed (codeOf s .rows) (length input) c) (λ a. ran a 0 c) _
+    subst (λ (a : Ran). WholeIn (a .held)) (sym e)
+    (calling-keeps (λ (a : Ran). WholeIn (a .held)) s (isFormed (codeOf s .rows) (length input) c) (λ a. ran a 0 c) _
     (λ a. w)
-    (drive-whole (givenTo s input c) b 0 c _ w refl))
+    (run-keeps (givenTo s input c) WholeIn (lay-whole (givenTo s input c)) b c w))
 lengths-handed-back _ (by-step m s input l n r h e) =
     let w = lengths-handed-back m h in let c = lent m l in
-    subst (λ (a : Shown). Held-whole (a .held)) (sym e)
-    (calling-keeps (λ (a : Shown). Held-whole (a .held)) s (isFormed (codeOf s .rows) (length input) c) (λ a. shown a c) (stepLaid s input c)
+    subst (λ (a : Shown). WholeIn (a .held)) (sym e)
+    (calling-keeps (λ (a : Shown). WholeIn (a .held)) s (isFormed (codeOf s .rows) (length input) c) (λ a. shown a c) (stepLaid s input c)
     (λ a. w)
     (shown-whole (givenTo s input c) c _ w refl))
 

@@ -1,4 +1,5 @@
--- What the exported operations promise together: the check's answer and demand 3 on the model, the calls, demand 3 on the code, and the customer's cases.
+-- What the exported operations promise together: the check's answer and demand 3 on the model, the calls, demand 3 on the code, the lengths that
+-- calls hand back, and the customer's cases.
 pub mod Scanned
 pub mod Partner
 pub mod Checked

@@ -334,7 +334,9 @@ module _ (g : Given) (Q : ℕ → Type 0) (lands : (j : ℕ) → Landing (g .ops
   exec-does : (o : Op) → opAt (g .ops) (s .at) ≡ o → needs o ≤ length (s .reg) → Does o (exec g o s)
   unfolding exec
   exec-does (control c) is l = turn-does c is
-  exec-does (load n) is l = refuses 23 refl (λ e. grows (cells-long (s .pointer) n (s .tape) e) (cover-whole _ _) (λ f h. (omega (arith, covered f n h), f .pointed, λ w. search each-part)))
+  exec-does (load n) is l =
+      refuses 23 refl
+      (λ e. grows (cells-long (s .pointer) n (s .tape) e) (cover-whole _ _) (λ f h. (omega (arith, covered f n h), f .pointed, λ w. search each-part)))
   exec-does (set k vs) is l = works refl (λ f h. (omega arith, f .pointed, λ w. search (below-words vs (h .1))))
   exec-does (plain p) is l = act-does p l
 

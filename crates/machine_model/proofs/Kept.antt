@@ -36,7 +36,8 @@ module _ (g : Given) (lim : Limited (g .ops)) where
 
   effect-formed : (s t : State) (o : Op) → Fits o → Formed g s → Effect g Inner s o t → Formed g t
   effect-formed s _ _ h f (turns j ts cs b k) = let p = k (search) in formed _ (p .0) (p .1) (f .narrow) (omega arith) (f .pointed) (f .whole)
-  effect-formed s _ o h f (acts p n r m rs ch k os a e w z) = formed _ a (search) (omega (arith, made-few o (length (s .reg)) h (f .narrow))) (z f h .0) (z f h .1) (w (f .whole))
+  effect-formed s _ o h f (acts p n r m rs ch k os a e w z) =
+      let q = z f h in formed _ a (search) (omega (arith, made-few o (length (s .reg)) h (f .narrow))) (q .0) (q .1) (w (f .whole))
 
   -- a step of a patch within the limits leads from a well-formed state to one
   pub step-formed : (s t : State) → Formed g s → step g s ≡ next t → Formed g t

@@ -33,7 +33,7 @@ impl Numbers {
 
     pub const LENGTH: usize = 2000000000;
 
-    // The cells that an Alloc gives a tape of none: no length lies between.
+    // The cells that an Alloc gives a tape of none; no counted length lies between 0 and this.
     pub const FIRST_BLOCK: usize = 30000;
 
     pub const CALLS: usize = 256;
