@@ -8,7 +8,7 @@ use lib.Dec.{eqb}
 use lib.ListN.{length, length-replicate}
 use borrow.Author.Tests.{eqb-true, eqb-false}
 use Rattle.basics.proofs.Clash.{clash}
-use Rattle.basics.proofs.Tests.{byCase, and-left}
+use Rattle.basics.proofs.Tests.{byCase}
 use Rattle.ops.specs.Syntax.{Op}
 use Rattle.ops.specs.Patch.{patchOf}
 use Rattle.ops.specs.Decode.{opAt}
@@ -37,7 +37,7 @@ use Rattle.states.specs.Formed.{hasRoom, isFormed}
 use Rattle.machine.specs.Calls.{Shown, lent, stepCall, steppedTo, runCall, ranTo, freshOn, freshCall}
 use Rattle.machine.specs.declared.machine.Stepped.{Stepped}
 use Rattle.machine.specs.declared.machine.Ran as code
-use Rattle.states.proofs.WellFormed.{formed-fits}
+use Rattle.states.proofs.WellFormed.{first-tests, formed-fits}
 use Rattle.demands.proofs.Started.{fresh-view, fresh-fits}
 use Rattle.machine.proofs.StepIsARun.{once-is}
 use Rattle.demands.specs.ReachedBy.{ReachedBy}
@@ -63,11 +63,6 @@ passed s k =
     (λ e. let w : ops (k .patch) ≡ refused (patchOf s .number) (patchOf s .place) = sym (k .is) ∙ refused-are s (eqb-false (patchOf s .number) 0 e) in clash (cc))
 
 -- ---- what is held, and what is answered
-
--- a well-formed state has room
-roomy : (ks : List ℕ) (n : ℕ) (c : Held) → isFormed ks n c ≡ true → hasRoom (c .register) (c .table) (c .channel) ≡ true
-unfolding isFormed
-roomy ks n c e = and-left _ _ (and-left _ _ (and-left _ _ (and-left _ _ (and-left _ _ e))))
 
 -- a number that is neither 20 nor 21
 other : (n : ℕ) → eqb n 20 ≡ false → eqb n 21 ≡ false → Neither20Nor21 n
@@ -128,7 +123,7 @@ module _ (s : List ℕ) (y : Bytes s) (p : Passed s) where
     unfolding runCall
     run-sound c k =
         byCase (isFormed (codeOf s .rows) (length input) c)
-        (λ e. rw (p .good, e) (runs c (formed-fits s input c (k .call-room) (k .ref-room) e) (k .state (roomy (codeOf s .rows) (length input) c e))))
+        (λ e. rw (p .good, e) (runs c (formed-fits s input c (k .call-room) (k .ref-room) e) (k .state (first-tests (codeOf s .rows) (length input) c e .0))))
         (λ e. rw (p .good, e) (record { number = other 37 refl refl; known = k }))
 
   -- what calls leave

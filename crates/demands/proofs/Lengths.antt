@@ -1,7 +1,7 @@
 -- 02, ask 12: "Show that no state reached from fresh has a length from 1 to 29,999", on the model and on what the calls hand back; "a state handed in with
 -- one is refused". Assumes nothing.
 use mathlib.Core.Path.{_≡_, refl, sym, subst}
-use mathlib.Core.Bool.{Bool, true, false}
+use mathlib.Core.Bool.{Bool, false}
 use mathlib.Core.List.{List}
 use mathlib.Core.Logic.{inl, inr}
 use Prim.Native.Nat.{ℕ, _<_}
@@ -9,7 +9,7 @@ use native.Mathlib.Omega.{arith}
 use borrow.Author.Tests.{eq-eqb}
 use lib.Dec.{eqb}
 use lib.ListN.{length}
-use Rattle.basics.proofs.Tests.{byCase, and-left, and-right}
+use Rattle.basics.proofs.Tests.{byCase}
 use Rattle.ops.specs.Patch.{patchOf}
 use Rattle.answers.specs.declared.run.Answer.{Answer}
 use Rattle.answers.specs.declared.run.Answer.the-variants.{NotAState}
@@ -22,8 +22,8 @@ use Rattle.machine_step.specs.Held.{Slices, Held}
 use Rattle.bridge.specs.View.{view, lay}
 use Rattle.bridge.specs.Decoded.{codeOf, givenTo}
 use Rattle.bridge.specs.Run.{Ran, ran}
-use Rattle.states.specs.Formed.{hasRoom, inLimits, isFormed}
-use Rattle.states.proofs.WellFormed.{limits}
+use Rattle.states.specs.Formed.{hasRoom, isFormed}
+use Rattle.states.proofs.WellFormed.{limits, first-tests}
 use Rattle.machine.specs.Fresh.{freshOf}
 use Rattle.machine.specs.Calls.{Shown, shown, shownOf, lent, calling, stepLaid, stepCall, runCall, freshOn, freshCall}
 use Rattle.machine.specs.declared.machine.Machine.{Machine}
@@ -92,14 +92,10 @@ excluded n some few (inl z) = omega arith
 excluded n some few (inr b) = omega arith
 
 module _ (s input : List ℕ) (good : patchOf s .number ≡ 0) (c : Held) (some : 0 < c .numbers .length) (few : c .numbers .length < 30_000) where
-  in-limits : (ks : List ℕ) (n : ℕ) → isFormed ks n c ≡ true → inLimits (c .numbers) ≡ true
-  unfolding isFormed
-  in-limits ks n e = and-right (hasRoom (c .register) (c .table) (c .channel)) _ (and-left _ _ (and-left _ _ (and-left _ _ (and-left _ _ e))))
-
   no-state : (ks : List ℕ) (n : ℕ) → isFormed ks n c ≡ false
   no-state ks n =
       byCase (isFormed ks n c)
-      (λ e. absurd (excluded (c .numbers .length) some few (limits (c .numbers) (in-limits ks n e) .whole)))
+      (λ e. absurd (excluded (c .numbers .length) some few (limits (c .numbers) (first-tests ks n c e .1) .whole)))
       (λ e. e)
 
   -- a run that is handed one, and a step, answer 37 and leave all as it was

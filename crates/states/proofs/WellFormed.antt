@@ -174,6 +174,12 @@ module _ (g : Given) (ks : List ℕ) (r : Rows (g .ops) ks) where
 
 -- ---- all of it
 
+-- the first two of the tests
+pub first-tests : (ks : List ℕ) (n : ℕ) (c : Held) → isFormed ks n c ≡ true
+    → (hasRoom (c .register) (c .table) (c .channel) ≡ true) × (inLimits (c .numbers) ≡ true)
+unfolding isFormed
+first-tests ks n c e = parts (hasRoom (c .register) (c .table) (c .channel)) _ (and-left _ _ (and-left _ _ (and-left _ _ (and-left _ _ e))))
+
 every : (l : List ℕ) → Each (λ y. 0 ≤ y) l
 every [] = tt
 every (x ∷ xs) = (omega arith, every xs)

@@ -20,4 +20,12 @@ feltcairn-flatten-numbers-spec =
     (λ c. search needs)
     (λ c. search needs)
     (λ c. search needs)
-    (λ c. rw (← c .before .before .before .before .before .before .before .before .before .before .before .before .before .before .before .before .before .flatten-numbers .ensures, c .before .before .tell .ensures, c .before .before .before .before .before .before .before .before .number-of .ensures, c .before .before .before .before .before .before .before .place-of .ensures, c .before .before .before .before .before .before .bytes-of .ensures, c .before .before .before .before .before .bodies-of .ensures) refl))
+    (λ c. let d = c .before .before .before .before .before in let f = d .before .before .before .before .before .before .before .before .before .before .before .before in
+    rw (
+      ← f .flatten-numbers .ensures,
+      c .before .before .tell .ensures,
+      d .before .before .before .number-of .ensures,
+      d .before .before .place-of .ensures,
+      d .before .bytes-of .ensures,
+      d .bodies-of .ensures,
+    ) refl))

@@ -18,9 +18,13 @@ body-at-spec =
     (λ c κs. search needs)
     (λ c. simp (ne-eqb _ _ (c .before .before .if1 .left), c .if2 .taken, ← (c .before .before .before .kind-at .ensures), ← (c .before .length-ok .ensures)))
     (λ c κs. (omega arith, sym (c .before .length-ok .ensures) ∙ not-false (c .before .length-ok .result) (c .if2 .left)))
-    (λ c. simp (ne-eqb _ _ (c .before .before .before .before .if1 .left), c .before .before .if2 .left, lt-ltb _ _ (c .if3 .taken), ← (c .before .before .before .before .before .kind-at .ensures), ← (c .before .before .before .length-ok .ensures), ← (c .before .count-of .ensures)))
+    (λ c. let l = c .before .before in let k = l .before .before in
+    simp (ne-eqb _ _ (k .if1 .left), l .if2 .left, lt-ltb _ _ (c .if3 .taken), ← (k .before .kind-at .ensures), ← (l .before .length-ok .ensures), ← (c .before .count-of .ensures)))
     (λ c κs. (omega arith, sym (c .before .before .before .length-ok .ensures) ∙ not-false (c .before .before .before .length-ok .result) (c .before .before .if2 .left)))
-    (λ c. simp (ne-eqb _ _ (c .before .before .before .before .before .before .if1 .left), c .before .before .before .before .if2 .left, le-ltb _ _ (c .before .before .if3 .left), lt-ltb _ _ (c .if4 .taken), ← (c .before .before .before .before .before .before .before .kind-at .ensures), ← (c .before .before .before .before .before .length-ok .ensures), ← (c .before .before .before .count-of .ensures), ← (c .before .mode-of .ensures)))
-    (λ c. simp (ne-eqb _ _ (c .before .before .before .before .before .before .before .if1 .left), c .before .before .before .before .before .if2 .left, le-ltb _ _ (c .before .before .before .if3 .left), le-ltb _ _ (c .before .if4 .left), eq-eqb _ _ (c .if5 .taken), ← (c .before .before .before .before .before .before .before .before .kind-at .ensures), ← (c .before .before .before .before .before .before .length-ok .ensures), ← (c .before .before .before .before .count-of .ensures), ← (c .before .before .mode-of .ensures)))
+    (λ c. let n = c .before .before in let l = n .before .before in let k = l .before .before in
+    simp (ne-eqb _ _ (k .if1 .left), l .if2 .left, le-ltb _ _ (n .if3 .left), lt-ltb _ _ (c .if4 .taken), ← (k .before .kind-at .ensures), ← (l .before .length-ok .ensures), ← (n .before .count-of .ensures), ← (c .before .mode-of .ensures)))
+    (λ c. let m = c .before in let n = m .before .before in let l = n .before .before in let k = l .before .before in
+    simp (ne-eqb _ _ (k .if1 .left), l .if2 .left, le-ltb _ _ (n .if3 .left), le-ltb _ _ (m .if4 .left), eq-eqb _ _ (c .if5 .taken), ← (k .before .kind-at .ensures), ← (l .before .length-ok .ensures), ← (n .before .count-of .ensures), ← (m .before .mode-of .ensures)))
     (λ c. search needs)
-    (λ c. simp (ne-eqb _ _ (c .before .before .before .before .before .before .before .if1 .left), c .before .before .before .before .before .if2 .left, le-ltb _ _ (c .before .before .before .if3 .left), le-ltb _ _ (c .before .if4 .left), ne-eqb _ _ (c .if5 .left), ← (c .before .before .before .before .before .before .before .before .kind-at .ensures), ← (c .before .before .before .before .before .before .length-ok .ensures), ← (c .before .before .before .before .count-of .ensures), ← (c .before .before .mode-of .ensures))))
+    (λ c. let m = c .before in let n = m .before .before in let l = n .before .before in let k = l .before .before in
+    simp (ne-eqb _ _ (k .if1 .left), l .if2 .left, le-ltb _ _ (n .if3 .left), le-ltb _ _ (m .if4 .left), ne-eqb _ _ (c .if5 .left), ← (k .before .kind-at .ensures), ← (l .before .length-ok .ensures), ← (n .before .count-of .ensures), ← (m .before .mode-of .ensures))))
