@@ -1,6 +1,6 @@
 -- Function, Call, Return, While, If, Else and End are the model's, laid. Assumes nothing.
 use mathlib.Core.Path.{_≡_, _∙_, refl, ap, sym}
-use mathlib.Core.Bool.{Bool}
+use mathlib.Core.Bool.{Bool, true}
 use mathlib.Core.List.{List, [], _∷_, _++_, map, reverse}
 use mathlib.Core.Option.{Option, none, some}
 use Prim.Native.Nat.{ℕ, suc, _+_, _-_, _^_, _≤_, _<_}
@@ -11,6 +11,7 @@ use lib.ListN.{length, getD, take, drop, length-drop, length-map, List·getD-eq-
 use lib.ListN
 use lib.Seq.{getD-take, length-take-le, take-append-seam}
 use borrow.Author.Tests.{leb-true, leb-false, le-leb, lt-leb, ltb-true, le-ltb, eqb-true, eqb-false}
+use Rattle.basics.specs.Limits.{mostOps}
 use Rattle.basics.proofs.Tests.{byCase}
 use Rattle.byte_fields.specs.Storage.{fill}
 use Rattle.ops.specs.Syntax.{Op, Bracket, isWhile}
@@ -25,7 +26,8 @@ use Rattle.machine_model.proofs.Scans.{end-below, else-below, function-below, k
 use Rattle.machine_model.proofs.Table.{each-enter, rising-enter, marks-few}
 use Rattle.machine_model.proofs.Stacks.{pushed, back-popped}
 use Rattle.machine_numbers.specs.Numbers as m
-use Rattle.searches.specs.Found.{rowBracket, rowFunction, placeOr, endOf, elseOf, openOf, markOf, entry, enteredIn, countedIn}
+use Rattle.partners.specs.Columns.{rowBracket, rowFunction, nowhere, place, endOf, elseOf, openOf, markOf}
+use Rattle.searches.specs.Found.{entry, enteredIn, countedIn}
 use Rattle.control_ops.specs.Control.{jumpOf, functionOf, callOf, retOf, whileOf, ifOf, elsesOf, endsOf, inTable}
 use Rattle.machine_step.specs.Held.{Held, held, steering}
 use Rattle.bridge.specs.View.{view, laid}
@@ -36,20 +38,25 @@ use Rattle.bridge.proofs.Over.{over-same, over-num, over-calls, went, m
 -- the rows ks are to the searches what the ops are
 pub record Rows (os : List Op) (ks : List ℕ) : Type 0 where
   pub many : length os ≡ length ks
+  pub few : length ks ≤ mostOps
   pub marked : brackets os ≡ map rowBracket ks
   pub entered : functions os ≡ map rowFunction ks
   pub looped : (j : ℕ) → isWhile (opAt os j) ≡ eqb (getD ks j 0) 5
 
 module _ (g : Given) (ks : List ℕ) (r : Rows (g .ops) ks) (c : Held) (h : Counted c) where
+  -- the value that stands for no place is none
+  no-place : leb (length ks) nowhere ≡ true
+  no-place = le-leb (length ks) nowhere (omega (arith, r .few))
+
   -- on to the op after v
   go-is : (v : ℕ) → went (held (m.atPosition (c .numbers) (v + 1)) (c .calls) (c .refs) (c .register) (c .tape) (c .table) (c .channel) (c .output)) ≡ laid c (next (goTo (view c) (suc v)))
   go-is v = meets c _ _ (over-num c h _ _ _ _ _ _) (rw (add-one v) refl)
 
   -- past the partner that a search gives, or 20
   jump-is : (x : Option ℕ) → ((j : ℕ) → x ≡ some j → j < length ks)
-      → steering c (m.steered (jumpOf ks (c .numbers) (placeOr (length ks) x)) (c .calls) (c .table)) ≡ laid c (jump (view c) x)
+      → steering c (m.steered (jumpOf ks (c .numbers) (place x)) (c .calls) (c .table)) ≡ laid c (jump (view c) x)
   unfolding jumpOf pick
-  jump-is none b = rw (le-leb (length ks) (length ks) (omega arith)) refl
+  jump-is none b = rw (no-place) refl
   jump-is (some j) b = rw (lt-leb (length ks) j (b j refl)) (go-is j)
 
   -- a search over the marks that follow the position, which gives a place before their end
@@ -60,13 +67,13 @@ module _ (g : Given) (ks : List ℕ) (r : Rows (g .ops) ks) (c : Held) (h : Coun
         let i = suc (c .numbers .position) in
         omega (arith, below i 0 (drop i (map rowBracket ks)) j e, length-drop i (map rowBracket ks), length-map ks rowBracket)
 
-    skip-is : steering c (m.steered (jumpOf ks (c .numbers) (placeOr (length ks) (to (c .numbers .position + 1) 0 (drop (c .numbers .position + 1) (map rowBracket ks))))) (c .calls) (c .table))
+    skip-is : steering c (m.steered (jumpOf ks (c .numbers) (place (to (c .numbers .position + 1) 0 (drop (c .numbers .position + 1) (map rowBracket ks))))) (c .calls) (c .table))
         ≡ laid c (jump (view c) (to (suc (c .numbers .position)) 0 (drop (suc (c .numbers .position)) (brackets (g .ops)))))
     skip-is = let i = suc (c .numbers .position) in rw (add-one (c .numbers .position), r .marked) (jump-is (to i 0 (drop i (map rowBracket ks))) partner)
 
     -- the same where lane 0 is zero
     skip-at-zero : 0 < c .numbers .lanes
-        → steering c (m.steered (pick (eqb (getD (c .register) 0 0) 0) (jumpOf ks (c .numbers) (placeOr (length ks) (to (c .numbers .position + 1) 0 (drop (c .numbers .position + 1) (map rowBracket ks))))) (m.answered 0 (m.next (c .numbers)))) (c .calls) (c .table))
+        → steering c (m.steered (pick (eqb (getD (c .register) 0 0) 0) (jumpOf ks (c .numbers) (place (to (c .numbers .position + 1) 0 (drop (c .numbers .position + 1) (map rowBracket ks))))) (m.answered 0 (m.next (c .numbers)))) (c .calls) (c .table))
         ≡ laid c (pick (eqb (lane0 (view c)) 0) (jump (view c) (to (suc (c .numbers .position)) 0 (drop (suc (c .numbers .position)) (brackets (g .ops))))) (next (on (view c))))
     unfolding pick
     skip-at-zero w =
@@ -91,10 +98,10 @@ module _ (g : Given) (ks : List ℕ) (r : Rows (g .ops) ks) (c : Held) (h : Coun
   -- ---- End
 
   again-is : (x : Option ℕ)
-      → steering c (m.steered (pick (leb (length ks) (placeOr (length ks) x)) (m.answered 0 (m.next (c .numbers))) (pick (eqb (getD ks (placeOr (length ks) x) 0) 5) (m.answered 0 (m.atPosition (c .numbers) (placeOr (length ks) x + 1))) (m.answered 0 (m.next (c .numbers))))) (c .calls) (c .table))
+      → steering c (m.steered (pick (leb (length ks) (place x)) (m.answered 0 (m.next (c .numbers))) (pick (eqb (getD ks (place x) 0) 5) (m.answered 0 (m.atPosition (c .numbers) (place x + 1))) (m.answered 0 (m.next (c .numbers))))) (c .calls) (c .table))
       ≡ laid c (again g (view c) x)
   unfolding pick
-  again-is none = rw (le-leb (length ks) (length ks) (omega arith)) (go-is (c .numbers .position))
+  again-is none = rw (no-place) (go-is (c .numbers .position))
   again-is (some j) =
       byCase (leb (length ks) j)
       (λ e. let b = leb-true (length ks) j e in
@@ -154,10 +161,10 @@ module _ (g : Given) (ks : List ℕ) (r : Rows (g .ops) ks) (c : Held) (h : Coun
         (rw (take-append-seam e (drop (length e) (c .table)), q, add-one at) refl))
 
     function-by : (at : ℕ) → Marked g at → (x : Option ℕ) → ((j : ℕ) → x ≡ some j → j < length ks)
-        → steering c (inTable (c .calls) (pick (leb (length ks) (placeOr (length ks) x)) (m.oneList (m.answered 20 (c .numbers)) (c .table)) (m.oneList (m.answered 0 (m.atPosition (m.ofFunctions (c .numbers) (countedIn at (c .numbers .functions) (c .table))) (placeOr (length ks) x + 1))) (enteredIn at (c .numbers .functions) (c .table)))))
+        → steering c (inTable (c .calls) (pick (leb (length ks) (place x)) (m.oneList (m.answered 20 (c .numbers)) (c .table)) (m.oneList (m.answered 0 (m.atPosition (m.ofFunctions (c .numbers) (countedIn at (c .numbers .functions) (c .table))) (place x + 1))) (enteredIn at (c .numbers .functions) (c .table)))))
         ≡ laid c (jump (withTable (view c) (enter at (view c .table))) x)
     unfolding pick
-    function-by at k none b = rw (le-leb (length ks) (length ks) (omega arith)) refl
+    function-by at k none b = rw (no-place) refl
     function-by at k (some j) b = rw (lt-leb (length ks) j (b j refl)) (enter-went at j (c .numbers .depth) (c .calls) (view c .calls) k (over-same c h .calls) refl)
 
     pub function-is : c .numbers .position < length ks → Marked g (c .numbers .position)
@@ -168,10 +175,10 @@ module _ (g : Given) (ks : List ℕ) (r : Rows (g .ops) ks) (c : Held) (h : Coun
         rw (add-one (c .numbers .position), r .marked) (function-by (c .numbers .position) k (toEnd i 0 (drop i (map rowBracket ks))) (partner toEnd end-below here))
 
     found-by : (x : Option ℕ) → ((j : ℕ) → x ≡ some j → Marked g j) → c .numbers .depth < 256
-        → steering c (pick (leb (length ks) (placeOr (length ks) x)) (m.steered (m.answered 29 (c .numbers)) (c .calls) (c .table)) (m.steered (m.answered 0 (m.atPosition (m.ofFunctions (m.ofDepth (c .numbers) (c .numbers .depth + 1)) (countedIn (placeOr (length ks) x) (c .numbers .functions) (c .table))) (placeOr (length ks) x + 1))) (lib.ListN.set (c .calls) (c .numbers .depth) (c .numbers .position)) (enteredIn (placeOr (length ks) x) (c .numbers .functions) (c .table))))
+        → steering c (pick (leb (length ks) (place x)) (m.steered (m.answered 29 (c .numbers)) (c .calls) (c .table)) (m.steered (m.answered 0 (m.atPosition (m.ofFunctions (m.ofDepth (c .numbers) (c .numbers .depth + 1)) (countedIn (place x) (c .numbers .functions) (c .table))) (place x + 1))) (lib.ListN.set (c .calls) (c .numbers .depth) (c .numbers .position)) (enteredIn (place x) (c .numbers .functions) (c .table))))
         ≡ laid c (found (view c) x)
     unfolding pick
-    found-by none k b = rw (le-leb (length ks) (length ks) (omega arith)) refl
+    found-by none k b = rw (no-place) refl
     found-by (some j) k b =
         let d = c .numbers .depth in let at = c .numbers .position in
         let q = h .call-room in let y : d < length (c .calls) = omega arith in

@@ -25,7 +25,7 @@ use Rattle.file_laws.proofs.Fitting.{below-all, item-fits}
 use Rattle.file_laws.proofs.Meaning.{means}
 use Rattle.machine_model.specs.Scan.{opAt, brackets, functions}
 use Rattle.machine_model.specs.Limited.{count, Limited}
-use Rattle.searches.specs.Found.{rowBracket, rowFunction}
+use Rattle.partners.specs.Columns.{rowBracket, rowFunction, Stored}
 use Rattle.machine_numbers.specs.Asks.{PayloadIn}
 use Rattle.machine_step.specs.Payloads.{PayloadsInBytes}
 use Rattle.bridge.specs.Decoded.{codeOf, givenOf}
@@ -69,6 +69,7 @@ module _ (s : List ℕ) where
       let xs = patchOf s .items in let e = items-are s in
       record {
         many = length-map xs (file.opAt s) ∙ sym (length-map xs rowIn);
+        few = omega (arith, length-map xs rowIn, few-items s);
         marked = marked-are xs e;
         entered = entered-are xs e;
         looped = looped-are xs e;
@@ -169,6 +170,11 @@ payloads-in-bytes s =
       many-payloads = length-map xs payloadIn ∙ sym n;
       each = payload-in s;
     }
+
+-- its columns hold what the searches find
+pub places-stored : (s : List ℕ) → Stored (codeOf s .rows) (codeOf s .partners) (codeOf s .turns) (codeOf s .marks)
+unfolding codeOf
+places-stored s = record { partners = refl; turns = refl; marks = refl }
 
 -- ---- within the limits
 

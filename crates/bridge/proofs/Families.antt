@@ -16,7 +16,7 @@ use Rattle.ops.specs.Syntax.Control.{function, call, ret, while, if, else, end}
 use Rattle.ops.specs.Syntax.Plain.{comment, store, move, swap, locate, offset, deref, refer, cell, lane, get, put, peek, poke, alloc, free}
 use Rattle.ops.specs.Syntax.Sort.{ints, floats}
 use Rattle.ops.specs.Syntax.Op.{control, set, load, plain}
-use Rattle.searches.specs.Found.{rowBracket, rowFunction}
+use Rattle.partners.specs.Columns.{rowBracket, rowFunction}
 
 -- the row k is to the searches what the op o is
 pub record Told (k : ℕ) (o : Op) : Type 0 where

@@ -7,12 +7,15 @@ use Rattle.ops.specs.Patch.{Item, patchOf, rowIn, countIn, needIn, payloadIn}
 use Rattle.ops.specs.Decode.{opAt}
 use Rattle.ops.specs.Syntax.{Op}
 use Rattle.machine_model.specs.State.{Given}
+use Rattle.partners.specs.Columns.{partnersOf, turnsOf, functionsOf}
 use Rattle.machine_step.specs.Held.{Held, Code, code}
 
--- the file s as the machine reads it
+-- the file s as it is read
 unfoldable pub codeOf : List ℕ → Code
 codeOf s =
-    code (map rowIn (patchOf s .items)) (map countIn (patchOf s .items)) (map needIn (patchOf s .items)) (map payloadIn (patchOf s .items)) s
+    let xs = patchOf s .items in
+    let ks = map rowIn xs in
+    code ks (map countIn xs) (map needIn xs) (map payloadIn xs) (partnersOf ks) (turnsOf ks) (functionsOf ks) s
 
 -- what a run of it is given: the ops that its bytes mean, the input, and room for so many outputs
 unfoldable pub givenOf : List ℕ → List ℕ → ℕ → Given

@@ -7,11 +7,12 @@ use Rattle.basics.specs.Limits.{depth}
 use Rattle.basics.specs.Pick.{pick}
 use Rattle.kind_table.specs.Rows as row
 use Rattle.machine_numbers.specs.Numbers.{atPosition, ofDepth, ofFunctions, halt, next, answered, OneList, oneList, Steered, steered}
-use Rattle.searches.specs.Found.{endOf, elseOf, openOf, markOf, enteredIn, countedIn}
+use Rattle.partners.specs.Columns.{endOf, elseOf, openOf, markOf}
+use Rattle.searches.specs.Found.{enteredIn, countedIn}
 use Rattle.machine_numbers.specs.declared.numbers.Numbers.{Numbers}
 use Rattle.machine_numbers.specs.declared.numbers.OpAnswer.{OpAnswer}
 
--- after the op at e, or 20 where e is the op count
+-- after the op at e, or 20 where e is no place
 unfoldable pub jumpOf : List ℕ → Numbers → ℕ → OpAnswer
 unfolding pick
 jumpOf ks p e = pick (leb (length ks) e) (answered 20 p) (answered 0 (atPosition p (e + 1)))

@@ -4,7 +4,7 @@ ghost use Prim.Native.Nat.{_+_, _≤_, _<_};
 ghost use lib.ListN.{length, getD, take};
 ghost use Rattle.basics.specs.Limits.{mostOps, lanes, depth};
 ghost use Rattle.machine_numbers.specs.Numbers.{oneList, steered};
-ghost use Rattle.searches.specs.Found.{endOf, elseOf, openOf, partnerOf};
+ghost use Rattle.partners.specs.Columns.{Stored, functionsOf, endOf, elseOf, openOf};
 ghost use Rattle.control_ops.specs.CanSteer.{CanSteer};
 ghost use Rattle.control_ops.specs.Control.{jumpOf, functionOf, callOf, retOf, whileOf, ifOf, elsesOf, endsOf, controlOf};
 ghost use Rattle.machine_model.specs.Formed.{Rising};
@@ -13,7 +13,7 @@ use kind_table::row;
 use machine_numbers::numbers::Numbers;
 use machine_numbers::numbers::OpAnswer;
 use machine_numbers::numbers::SIGN;
-use searches::scan;
+use partners::scan;
 use searches::table;
 
 // After the op at e; 20 where there is none.
@@ -43,11 +43,12 @@ fn function(mut h: Numbers, rows: &[u8], end: usize, table: &mut [u16]) -> OpAns
 fn call(
     mut h: Numbers,
     rows: &[u8],
+    marks: &[u16],
     calls: &mut [u16; Numbers::CALLS],
     register: &[u64],
     table: &mut [u16],
 ) -> OpAnswer
-    requires { ⌜ CanSteer h (now rows) (now calls) (now register) (now table) ⌝ }
+    requires { ⌜ CanSteer h (now rows) (now calls) (now register) (now table) × (now marks ≡ functionsOf (now rows)) ⌝ }
     ensures { λ r. ⌜ steered r (now (calls .exit)) (now (table .exit)) ≡ callOf (now (rows .entry)) h (now (calls .entry)) (now (register .entry)) (now (table .entry)) ⌝ }
 {
     let d = h.depth;
@@ -67,7 +68,7 @@ fn call(
         let to = wide_short(table[j]);
         return h.goto(to + 1);
     }
-    let m = scan::nth_function(rows, k);
+    let m = scan::nth_function(marks, k);
     if rows.len() <= m {
         return h.refuse(29);
     }
@@ -135,27 +136,30 @@ fn end(h: Numbers, rows: &[u8], opener: usize, register: &[u64]) -> OpAnswer
     h.next()
 }
 
-// The op of row k, whose partner stands at `with`.
+// The op of row k. Where it may lead is read off the stored places.
 pub fn control(
     h: Numbers,
     k: u8,
-    with: usize,
     rows: &[u8],
+    partners: &[u16],
+    turns: &[u16],
+    marks: &[u16],
     calls: &mut [u16; Numbers::CALLS],
     register: &[u64],
     table: &mut [u16],
 ) -> OpAnswer
-    requires { ⌜ CanSteer h (now rows) (now calls) (now register) (now table) × (k ≡ getD (now rows) (h .position) 0) × (with ≡ partnerOf (now rows) (h .position)) ⌝ }
+    requires { ⌜ CanSteer h (now rows) (now calls) (now register) (now table) × (k ≡ getD (now rows) (h .position) 0) × Stored (now rows) (now partners) (now turns) (now marks) ⌝ }
     ensures { λ r. ⌜ steered r (now (calls .exit)) (now (table .exit)) ≡ controlOf k (now (rows .entry)) h (now (calls .entry)) (now (register .entry)) (now (table .entry)) ⌝ }
 {
+    let p = h.position;
     match k {
-        row::FUNCTION => function(h, rows, with, table),
-        row::CALL => call(h, rows, calls, register, table),
+        row::FUNCTION => function(h, rows, wide_short(partners[p]), table),
+        row::CALL => call(h, rows, marks, calls, register, table),
         row::RETURN => ret(h, calls),
-        row::WHILE => while_op(h, rows, with, register),
-        row::IF => if_op(h, rows, with, register),
-        row::ELSE => else_op(h, rows, with),
-        row::END => end(h, rows, with, register),
+        row::WHILE => while_op(h, rows, wide_short(partners[p]), register),
+        row::IF => if_op(h, rows, scan::first_of(turns[p], partners[p]), register),
+        row::ELSE => else_op(h, rows, wide_short(partners[p])),
+        row::END => end(h, rows, wide_short(partners[p]), register),
         _ => h.next(),
     }
 }

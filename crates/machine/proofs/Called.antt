@@ -2,29 +2,31 @@
 use mathlib.Core.Path.{_≡_, _∙_, refl, ap, sym, subst}
 use mathlib.Core.Bool.{Bool, true, false, not}
 use mathlib.Core.List.{List, map}
-use Prim.Native.Nat.{ℕ}
+use Prim.Native.Nat.{ℕ, _+_, _-_, _≤_}
 use native.Mathlib.Omega.{arith}
-use lib.ListN.{length, take, length-replicate}
+use lib.ListN.{length, take, drop, length-map}
 use borrow.Author.Tests.{eq-eqb, ne-eqb, le-leb, not-true, not-false}
+use Rattle.basics.specs.Limits.{mostOps, mostMarks}
 use Rattle.byte_fields.specs.Storage.{fill}
 use Rattle.ops.specs.Patch.{rowIn, countIn, needIn, payloadIn, patchOf}
-use Rattle.answers.specs.declared.run.Answer.{Answer}
 use Rattle.answers.specs.declared.run.Answer.the-variants.{BadFile, NotAState}
 use Rattle.patch_reader.specs.Answer.{readOf}
 use Rattle.patch_reader.specs.declared.reader.Read.{Read}
+use Rattle.file_laws.proofs.Items.{few-items}
 use Rattle.file_laws.proofs.Loaded.{number-is, good-file, bad-file, bad-place, part-is}
+use Rattle.partners.specs.Columns.{partnersOf, turnsOf, functionsOf, fillEnd}
+use Rattle.partners.proofs.Lent.{few-functions, start-lent, end-lent, many-partners, many-turns}
 use Rattle.machine_step.specs.Held.{Slices, slices, Held, Code, code}
 use Rattle.bridge.specs.Decoded.{codeOf, givenTo}
-use Rattle.bridge.specs.Fits.{Fits}
-use Rattle.bridge.specs.Run.{Ran, ran, runLaid, runOf}
-use Rattle.bridge.proofs.Decoded.{Bytes}
+use Rattle.bridge.specs.Run.{ran, runLaid, runOf}
+use Rattle.bridge.proofs.Decoded.{Bytes, many-rows}
 use Rattle.bridge.proofs.Runs.{run-laid}
 use Rattle.states.specs.Zeros.{zeroed}
 use Rattle.states.specs.Formed.{hasRoom, inLimits, inPlace, allOf, callsBelow, refsWithin, namesFrom, tableNames, isFormed}
-use Rattle.states.proofs.WellFormed.{formed-fits, fits-formed}
+use Rattle.states.proofs.WellFormed.{formed-fits}
 use Rattle.machine.specs.Fresh.{freshOf}
-use Rattle.machine.specs.Ready.{ReadyToRun}
-use Rattle.machine.specs.Calls.{lent, calling, runCall, freshOn, freshCall}
+use Rattle.machine.specs.Ready.{IsLoaded, IsRead, ReadyToRun}
+use Rattle.machine.specs.Calls.{lent, runCall, freshOn, freshCall}
 use Rattle.machine.specs.declared.machine.Machine.{Machine}
 
 -- the fresh machine is a state of every patch, where there is room
@@ -37,102 +39,100 @@ as-long : (g g′ ts ch : List ℕ) → length g′ ≡ length g → hasRoom g�
 unfolding hasRoom
 as-long g g′ ts ch e = rw e refl
 
+-- the ops of what is read are few
+pub few-rows : (s : List ℕ) (x : Code) → IsRead s x → length (x .rows) ≤ mostOps
+few-rows s x h = omega (arith, ap (λ (y : Code). length (y .rows)) (h .read), many-rows s, few-items s)
+
+-- a good file, as `load` leaves it: its ops in the first entries of the four arrays
+pub is-loaded : (s : List ℕ) (r : Read) (ks ns ds ps ks₀ ns₀ ds₀ ps₀ : List ℕ)
+    → (r ≡ readOf (patchOf s)) × ((ks ≡ fill (map rowIn (patchOf s .items)) ks₀) × ((ns ≡ fill (map countIn (patchOf s .items)) ns₀)
+    × ((ds ≡ fill (map needIn (patchOf s .items)) ds₀) × (ps ≡ fill (map payloadIn (patchOf s .items)) ps₀))))
+    → r .number ≡ 0 → IsLoaded s (take (r .ops) ks) (take (r .ops) ns) (take (r .ops) ds) (take (r .ops) ps)
+is-loaded s r ks ns ds ps ks₀ ns₀ ds₀ ps₀ l z =
+    record {
+      good = good-file s r (l .0) z;
+      rows = part-is s r (l .0) rowIn ks ks₀ (l .1 .0);
+      counts = part-is s r (l .0) countIn ns ns₀ (l .1 .1 .0);
+      needs = part-is s r (l .0) needIn ds ds₀ (l .1 .1 .1 .0);
+      payloads = part-is s r (l .0) payloadIn ps ps₀ (l .1 .1 .1 .1);
+    }
+
+-- and with what the pass finds
+module _ (s ks ns ds ps : List ℕ) (h : IsLoaded s ks ns ds ps) where
+  pub rows-few : length ks ≤ mostOps
+  rows-few = rw (h .rows, length-map (patchOf s .items) rowIn) (few-items s)
+
+  pub marks-few : length (functionsOf ks) ≤ mostMarks
+  marks-few = rw (h .rows) (few-functions s)
+
+  pub is-read : (es es₀ ts ts₀ : List ℕ) (f : ℕ) (fs fs₀ : List ℕ)
+      → (es ≡ fill (partnersOf ks) es₀) × ((ts ≡ fill (turnsOf ks) ts₀) × ((f + length (functionsOf ks) ≡ mostMarks) × (fs ≡ fillEnd (functionsOf ks) fs₀)))
+      → length fs₀ ≡ mostMarks
+      → IsRead s (code ks ns ds ps (take (length ks) es) (take (length ks) ts) (take (mostMarks - f) (drop f fs)) s)
+  unfolding codeOf
+  is-read es es₀ ts ts₀ f fs fs₀ p n =
+      record {
+        good = h .good;
+        read = rw (
+          start-lent (partnersOf ks) es es₀ (p .0) (length ks) (many-partners ks),
+          start-lent (turnsOf ks) ts ts₀ (p .1 .0) (length ks) (many-turns ks),
+          end-lent (functionsOf ks) fs fs₀ f (p .1 .1 .0 ∙ sym n) (p .1 .1 .1) mostMarks n,
+          h .rows,
+          h .counts,
+          h .needs,
+          h .payloads,
+        ) refl;
+      }
+
 module _ (s input : List ℕ) where
-  -- ---- a call's three ways
+  -- ---- a run over the columns of a good file
 
-  module _ (r : Read) (q : r ≡ readOf (patchOf s)) (test : Bool) (refuse : Answer → Ran) (work : Ran) where
-    pub refused-file : (r .number ≡ 0 → ⊥) → refuse (BadFile (r .number) (r .place)) ≡ calling s test refuse work
-    refused-file z = rw (number-is s r q, bad-place s r q z, ne-eqb (patchOf s .number) 0 (bad-file s r q z)) refl
+  module _ (x : Code) (h : IsRead s x) (c : Held) (b : Bool) (e : b ≡ isFormed (x .rows) (length input) c) where
+    tested : b ≡ isFormed (codeOf s .rows) (length input) c
+    tested = e ∙ ap (λ (y : Code). isFormed (y .rows) (length input) c) (h .read)
 
-    pub refused-state : r .number ≡ 0 → test ≡ false → refuse NotAState ≡ calling s test refuse work
-    refused-state z e = rw (eq-eqb (patchOf s .number) 0 (good-file s r q z), e) refl
-
-  worked : (test : Bool) (refuse : Answer → Ran) (work : Ran) → patchOf s .number ≡ 0 → test ≡ true → work ≡ calling s test refuse work
-  worked test refuse work z e = rw (eq-eqb (patchOf s .number) 0 z, e) refl
-
-  -- ---- the steps
-
-  module _ (x : Code) (c : Held) (h : ReadyToRun s input x c) where
-    passed : isFormed (codeOf s .rows) (length input) c ≡ true
-    passed = fits-formed s input c (h .fits .counted .call-room) (h .fits .counted .ref-room) (h .fits)
-
-    laid-run : Bytes s → (n : ℕ) → runOf n 0 x input c ≡ runLaid (givenTo s input c) n c
-    laid-run y n = ap (λ (w : Code). runOf n 0 w input c) (h .read) ∙ run-laid s input y n c (h .fits)
-
-    pub run-called : Bytes s → (n : ℕ) → runOf n 0 x input c ≡ runCall s input n c
+    pub run-unformed : not b ≡ true → (n : ℕ) → ran NotAState 0 c ≡ runCall s input n c
     unfolding runCall
-    run-called y n = laid-run y n ∙ worked (isFormed (codeOf s .rows) (length input) c) (λ a. ran a 0 c) (runLaid (givenTo s input c) n c) (h .good) passed
+    run-unformed f n = rw (eq-eqb (patchOf s .number) 0 (h .good), ← tested, not-true b f) refl
 
-  -- ---- a good file, as `load` leaves it: its ops in the first entries of the four arrays
+    pub run-going : not b ≡ false → length (c .calls) ≡ 256 → length (c .refs) ≡ 256 → ReadyToRun s input x c
+    run-going f kc kr = record { good = h .good; read = h .read; fits = formed-fits s input c kc kr (sym tested ∙ not-false b f) }
 
-  module _ (r : Read) (ks ns ds ps ks₀ ns₀ ds₀ ps₀ : List ℕ)
-      (l : (r ≡ readOf (patchOf s)) × ((ks ≡ fill (map rowIn (patchOf s .items)) ks₀) × ((ns ≡ fill (map countIn (patchOf s .items)) ns₀)
-      × ((ds ≡ fill (map needIn (patchOf s .items)) ds₀) × (ps ≡ fill (map payloadIn (patchOf s .items)) ps₀)))))
-      (z : r .number ≡ 0) where
-    abbrev read : Code
-    read = code (take (r .ops) ks) (take (r .ops) ns) (take (r .ops) ds) (take (r .ops) ps) s
+    pub run-called : not b ≡ false → ReadyToRun s input x c → Bytes s → (n : ℕ) → runOf n 0 x input c ≡ runCall s input n c
+    unfolding runCall
+    run-called f k y n =
+        ap (λ (w : Code). runOf n 0 w input c) (h .read)
+        ∙ run-laid s input y n c (k .fits)
+        ∙ rw (eq-eqb (patchOf s .number) 0 (h .good), ← tested, not-false b f) refl
 
-    is-read : read ≡ codeOf s
-    unfolding codeOf
-    is-read =
-        rw (
-          part-is s r (l .0) rowIn ks ks₀ (l .1 .0),
-          part-is s r (l .0) countIn ns ns₀ (l .1 .1 .0),
-          part-is s r (l .0) needIn ds ds₀ (l .1 .1 .1 .0),
-          part-is s r (l .0) payloadIn ps ps₀ (l .1 .1 .1 .1),
-        ) refl
+  -- ---- a fresh run, where b is the answer of the test of the lent room
 
-    ready : (c : Held) → Fits s input c → ReadyToRun s input read c
-    ready c f = record { good = good-file s r (l .0) z; read = is-read; fits = f }
+  module _ (r : Read) (q : r ≡ readOf (patchOf s)) (z : r .number ≡ 0) (m : Machine) (f : m ≡ freshOf) (d : Slices) (b : Bool) (e : b ≡ hasRoom (d .register) (d .table) (d .channel)) where
+    pub fresh-cramped : not b ≡ true → (n : ℕ) → ran NotAState 0 (lent m d) ≡ freshCall s input n d
+    unfolding freshCall
+    fresh-cramped h n = rw (f, eq-eqb (patchOf s .number) 0 (good-file s r q z), ← e, not-true b h) refl
 
-    -- a run, where b is the answer of the test of 37
-    module _ (c : Held) (b : Bool) (e : b ≡ isFormed (take (r .ops) ks) (length input) c) where
-      tested : b ≡ isFormed (codeOf s .rows) (length input) c
-      tested = e ∙ ap (λ (x : Code). isFormed (x .rows) (length input) c) is-read
+    -- the run of the fresh machine over the zeros that are written
+    pub fresh-called : not b ≡ false → (g′ t′ : List ℕ) → g′ ≡ zeroed 1024 (d .register) → t′ ≡ zeroed (length (d .tape)) (d .tape)
+        → length g′ ≡ length (d .register) → (n : ℕ)
+        → runCall s input n (lent m (slices g′ t′ (d .table) (d .channel) (d .output))) ≡ freshCall s input n d
+    unfolding runCall freshCall
+    fresh-called h g′ t′ zg zt k n =
+        let w = slices g′ t′ (d .table) (d .channel) (d .output) in
+        let over : lent m w ≡ freshOn d = rw (f, zg, zt) refl in
+        let c : isFormed (codeOf s .rows) (length input) (lent freshOf w) ≡ true
+        = fresh-state (codeOf s .rows) (length input) w (as-long (d .register) g′ (d .table) (d .channel) k ∙ sym e ∙ not-false b h) in
+        let o : isFormed (codeOf s .rows) (length input) (lent m w) ≡ true = rw f c in
+        rw (eq-eqb (patchOf s .number) 0 (good-file s r q z), o, ← e, not-false b h)
+        (ap (λ (c : Held). runLaid (givenTo s input c) n c) over)
 
-      pub run-unformed : not b ≡ true → (n : ℕ) → ran NotAState 0 c ≡ runCall s input n c
-      unfolding runCall
-      run-unformed f n =
-          refused-state r (l .0) (isFormed (codeOf s .rows) (length input) c) (λ a. ran a 0 c) (runLaid (givenTo s input c) n c) z (sym tested ∙ not-true b f)
+  -- ---- a bad file
 
-      pub run-going : not b ≡ false → length (c .calls) ≡ 256 → length (c .refs) ≡ 256 → ReadyToRun s input read c
-      run-going f kc kr = ready c (formed-fits s input c kc kr (sym tested ∙ not-false b f))
+  module _ (r : Read) (q : r ≡ readOf (patchOf s)) (z : r .number ≡ 0 → ⊥) where
+    pub run-bad : (n : ℕ) (c : Held) → ran (BadFile (r .number) (r .place)) 0 c ≡ runCall s input n c
+    unfolding runCall
+    run-bad n c = rw (number-is s r q, bad-place s r q z, ne-eqb (patchOf s .number) 0 (bad-file s r q z)) refl
 
-    -- a fresh run, where b is the answer of the test of the lent room
-    module _ (m : Machine) (f : m ≡ freshOf) (d : Slices) (b : Bool) (e : b ≡ hasRoom (d .register) (d .table) (d .channel)) where
-      pub fresh-cramped : not b ≡ true → (n : ℕ) → ran NotAState 0 (lent m d) ≡ freshCall s input n d
-      unfolding freshCall
-      fresh-cramped h n = rw f (refused-state r (l .0) (hasRoom (d .register) (d .table) (d .channel)) (λ a. ran a 0 (lent freshOf d)) (runLaid (givenTo s input (freshOn d)) n (freshOn d)) z (sym e ∙ not-true b h))
-
-      module _ (h : not b ≡ false) (g′ t′ : List ℕ) where
-        abbrev over : Held
-        over = lent m (slices g′ t′ (d .table) (d .channel) (d .output))
-
-        -- whatever is written to the register and the tape
-        pub fresh-going : length g′ ≡ length (d .register) → ReadyToRun s input read over
-        unfolding freshOf
-        fresh-going k =
-            let n = length-replicate {A = ℕ} 256 0 in
-            let w = slices g′ t′ (d .table) (d .channel) (d .output) in
-            let q = fresh-state (codeOf s .rows) (length input) w (as-long (d .register) g′ (d .table) (d .channel) k ∙ sym e ∙ not-false b h) in
-            ready over (subst (λ (x : Machine). Fits s input (lent x w)) (sym f) (formed-fits s input (lent freshOf w) n n q))
-
-        -- and where that is zeros
-        pub fresh-called : ReadyToRun s input read over → g′ ≡ zeroed 1024 (d .register) → t′ ≡ zeroed (length (d .tape)) (d .tape) → Bytes s → (n : ℕ)
-            → runOf n 0 read input over ≡ freshCall s input n d
-        unfolding freshCall
-        fresh-called k zg zt y n =
-            let q : over ≡ freshOn d = rw (f, zg, zt) refl in
-            laid-run read over k y n
-            ∙ ap (λ (c : Held). runLaid (givenTo s input c) n c) q
-            ∙ worked (hasRoom (d .register) (d .table) (d .channel)) (λ a. ran a 0 (lent freshOf d)) (runLaid (givenTo s input (freshOn d)) n (freshOn d)) (k .good) (sym e ∙ not-false b h)
-
-  -- a bad file
-  pub run-bad : (r : Read) → r ≡ readOf (patchOf s) → (r .number ≡ 0 → ⊥) → (n : ℕ) (c : Held) → ran (BadFile (r .number) (r .place)) 0 c ≡ runCall s input n c
-  unfolding runCall
-  run-bad r q z n c = refused-file r q (isFormed (codeOf s .rows) (length input) c) (λ a. ran a 0 c) (runLaid (givenTo s input c) n c) z
-
-  pub fresh-bad : (r : Read) → r ≡ readOf (patchOf s) → (r .number ≡ 0 → ⊥) → (m : Machine) → m ≡ freshOf → (n : ℕ) (d : Slices)
-      → ran (BadFile (r .number) (r .place)) 0 (lent m d) ≡ freshCall s input n d
-  unfolding freshCall
-  fresh-bad r q z m f n d = rw f (refused-file r q (hasRoom (d .register) (d .table) (d .channel)) (λ a. ran a 0 (lent freshOf d)) (runLaid (givenTo s input (freshOn d)) n (freshOn d)) z)
+    pub fresh-bad : (m : Machine) → m ≡ freshOf → (n : ℕ) (d : Slices) → ran (BadFile (r .number) (r .place)) 0 (lent m d) ≡ freshCall s input n d
+    unfolding freshCall
+    fresh-bad m f n d = rw (f, number-is s r q, bad-place s r q z, ne-eqb (patchOf s .number) 0 (bad-file s r q z)) refl

@@ -19,7 +19,7 @@ use Rattle.ops.specs.Patch.{patchOf}
 use Rattle.file_laws.proofs.Items.{few-items}
 use Rattle.machine_model.specs.Step.{Outcome, step}
 use Rattle.machine_model.specs.Step.Outcome.{next}
-use Rattle.searches.specs.Found.{partnerOf, Noted}
+use Rattle.partners.specs.Columns.{Stored}
 use Rattle.machine_numbers.specs.declared.numbers.Numbers.{Numbers}
 use Rattle.machine_step.specs.Held.{Held, After, Code}
 use Rattle.machine_step.specs.Step.{stepOf}
@@ -29,7 +29,7 @@ use Rattle.machine_step.specs.Payloads.{PayloadsInBytes}
 use Rattle.machine_step.specs.CanStep.{CanStep}
 use Rattle.bridge.specs.Fits.{Fits}
 use Rattle.bridge.specs.Run.{ran, runOf}
-use Rattle.bridge.proofs.Decoded.{Bytes, rows, many-rows, payloads-in-bytes}
+use Rattle.bridge.proofs.Decoded.{Bytes, rows, many-rows, payloads-in-bytes, places-stored}
 use Rattle.bridge.proofs.Steps.{step-is}
 use Rattle.bridge.proofs.Real.{Real, step-real}
 use Rattle.bridge.proofs.Real.Real.{goes, stops}
@@ -100,8 +100,8 @@ op-here s input x c h e =
 
 -- what a step asks
 pub step-asks : (s input : List ℕ) (x : Code) (c : Held) → ReadyToRun s input x c → overOf (c .numbers) (length (x .rows)) ≡ false
-    → (w : ℕ) → w ≡ partnerOf (x .rows) (c .numbers .position) → CanStep (x .rows) c × PayloadsInBytes x × (w ≡ partnerOf (x .rows) (c .numbers .position))
-step-asks s input x c h e w p =
+    → CanStep (x .rows) c × PayloadsInBytes x × Stored (x .rows) (x .partners) (x .turns) (x .marks)
+step-asks s input x c h e =
     let k = h .fits .counted in
     let f = h .fits .formed in
     let o = op-here s input x c h e in (
@@ -113,7 +113,7 @@ step-asks s input x c h e w p =
         short = f .short;
       },
       subst (λ (y : Code). PayloadsInBytes y) (sym (h .read)) (payloads-in-bytes s),
-      p,
+      subst (λ (y : Code). Stored (y .rows) (y .partners) (y .turns) (y .marks)) (sym (h .read)) (places-stored s),
     )
 
 -- what a step leaves where it goes on is good and well formed
@@ -130,8 +130,8 @@ going-on s input x c b h e o q a =
 
 -- ---- the loop of `go`
 
--- after some steps: what is held is good and well formed, in slices as long as they were, the run from here is the run from the start, and the notes are right
-pub record Running (s input : List ℕ) (x : Code) (budget : ℕ) (from c : Held) (steps : ℕ) (notes : List ℕ) : Type 0 where
+-- after some steps: what is held is good and well formed, in slices as long as they were, and the run from here is the run from the start
+pub record Running (s input : List ℕ) (x : Code) (budget : ℕ) (from c : Held) (steps : ℕ) : Type 0 where
   pub ready : ReadyToRun s input x c
   pub register : length (c .register) ≡ length (from .register)
   pub tape : length (c .tape) ≡ length (from .tape)
@@ -140,14 +140,13 @@ pub record Running (s input : List ℕ) (x : Code) (budget : ℕ) (from c : Held
   pub output : length (c .output) ≡ length (from .output)
   pub within : steps ≤ budget
   pub same : runOf (budget - steps) steps x input c ≡ runOf budget 0 x input from
-  pub noted : Noted (x .rows) notes
 
 -- at first
-pub begin : {s input : List ℕ} {x : Code} {c : Held} (budget : ℕ) (notes : List ℕ) → ReadyToRun s input x c → Noted (x .rows) notes → Running s input x budget c c 0 notes
-begin budget notes h n =
-    record { ready = h; register = refl; tape = refl; table = refl; channel = refl; output = refl; within = omega arith; same = rw sub-zero refl; noted = n }
+pub begin : {s input : List ℕ} {x : Code} {c : Held} (budget : ℕ) → ReadyToRun s input x c → Running s input x budget c c 0
+begin budget h =
+    record { ready = h; register = refl; tape = refl; table = refl; channel = refl; output = refl; within = omega arith; same = rw sub-zero refl }
 
-module _ {s input : List ℕ} {x : Code} {budget : ℕ} {from c : Held} {steps : ℕ} {notes : List ℕ} (i : Running s input x budget from c steps notes) where
+module _ {s input : List ℕ} {x : Code} {budget : ℕ} {from c : Held} {steps : ℕ} (i : Running s input x budget from c steps) where
   -- the ways out
   pub ended : overOf (c .numbers) (length (x .rows)) ≡ true → ran Finished steps c ≡ runOf budget 0 x input from
   ended e = sym (run-done x input c _ _ e) ∙ i .same
@@ -164,9 +163,9 @@ module _ {s input : List ℕ} {x : Code} {budget : ℕ} {from c : Held} {steps :
       refused-at a = sym (run-refused x input c e budget steps less o q a) ∙ i .same
 
       -- and on
-      module _ (b : Bytes s) (a : o .number ≡ 0) (notes′ : List ℕ) (n : Noted (x .rows) notes′) where
+      module _ (b : Bytes s) (a : o .number ≡ 0) where
         pub onward : length (o .held .register) ≡ length (c .register) → length (o .held .tape) ≡ length (c .tape) → length (o .held .table) ≡ length (c .table)
-            → length (o .held .channel) ≡ length (c .channel) → length (o .held .output) ≡ length (c .output) → Running s input x budget from (o .held) (steps + 1) notes′
+            → length (o .held .channel) ≡ length (c .channel) → length (o .held .output) ≡ length (c .output) → Running s input x budget from (o .held) (steps + 1)
         onward g t ts ch w =
             record {
               ready = going-on s input x c b (i .ready) e o q a;
@@ -177,5 +176,4 @@ module _ {s input : List ℕ} {x : Code} {budget : ℕ} {from c : Held} {steps :
               output = w ∙ i .output;
               within = omega (arith, less);
               same = run-on x input c e budget steps less o q a ∙ i .same;
-              noted = n;
             }

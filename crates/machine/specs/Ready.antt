@@ -1,8 +1,8 @@
 -- A patch that is read and a state that is well formed, and where its steps end. Assumes nothing.
 use mathlib.Core.Path.{_≡_}
-use mathlib.Core.List.{List}
+use mathlib.Core.List.{List, map}
 use Prim.Native.Nat.{ℕ}
-use Rattle.ops.specs.Patch.{patchOf}
+use Rattle.ops.specs.Patch.{patchOf, rowIn, countIn, needIn, payloadIn}
 use Rattle.machine_step.specs.Held.{Held, Code}
 use Rattle.bridge.specs.Decoded.{codeOf}
 use Rattle.bridge.specs.Fits.{Fits}
@@ -10,7 +10,20 @@ use lib.Dec.{leb}
 use mathlib.Core.Bool.{Bool, _||_}
 use Rattle.machine_numbers.specs.declared.numbers.Numbers.{Numbers}
 
--- the file s is good, x is what the machine reads of it, and c is well formed and has room
+-- the file s is good, and these are the columns of its ops
+pub record IsLoaded (s ks ns ds ps : List ℕ) : Type 0 where
+  pub good : patchOf s .number ≡ 0
+  pub rows : ks ≡ map rowIn (patchOf s .items)
+  pub counts : ns ≡ map countIn (patchOf s .items)
+  pub needs : ds ≡ map needIn (patchOf s .items)
+  pub payloads : ps ≡ map payloadIn (patchOf s .items)
+
+-- the file s is good, and x is what is read of it
+pub record IsRead (s : List ℕ) (x : Code) : Type 0 where
+  pub good : patchOf s .number ≡ 0
+  pub read : x ≡ codeOf s
+
+-- and c is well formed and has room
 pub record ReadyToRun (s input : List ℕ) (x : Code) (c : Held) : Type 0 where
   pub good : patchOf s .number ≡ 0
   pub read : x ≡ codeOf s

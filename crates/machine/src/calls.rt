@@ -1,19 +1,30 @@
 // A run and a step. Each reads the patch first, then tests the state, then works.
 ghost use mathlib.Core.Path.{_≡_};
 ghost use Prim.Native.Nat.{ℕ};
-ghost use Rattle.machine_step.specs.Held.{slices};
+ghost use Rattle.machine_step.specs.Held.{slices, code};
 ghost use Rattle.machine.specs.Calls.{lent, stepCall, steppedTo, runCall, ranTo};
+ghost use Rattle.machine.specs.Ready.{IsLoaded, IsRead};
 use crate::going::go;
 use crate::machine::Machine;
 use crate::machine::Ran;
 use crate::machine::Stepped;
 use answers::run::Answer;
+use partners::scan::NOWHERE;
+use partners::scan::find_partners;
+use patch_reader::reader::load;
 use states::formed::is_formed;
 
 impl Machine {
-    // Steps until the machine is finished, a step is refused, or so many are made.
-    pub fn run(
+    // The run of a patch that is read, by its columns: the test of the state, then the steps.
+    pub fn run_read(
         mut self,
+        rows: &[u8],
+        counts: &[u16],
+        needs: &[u16],
+        payloads: &[u32],
+        partners: &[u16],
+        turns: &[u16],
+        marks: &[u16],
         bytes: &[u8],
         register: &mut [u64],
         tape: &mut [u64],
@@ -23,28 +34,9 @@ impl Machine {
         output: &mut [u64],
         budget: u32,
     ) -> Ran
+        requires { ⌜ IsRead (now bytes) (code (now rows) (now counts) (now needs) (now payloads) (now partners) (now turns) (now marks) (now bytes)) ⌝ }
         ensures { λ r. ⌜ ranTo r (slices (now (register .exit)) (now (tape .exit)) (now (table .exit)) (now (channel .exit)) (now (output .exit))) ≡ runCall (now (bytes .entry)) (now (input .entry)) budget (lent self (slices (now (register .entry)) (now (tape .entry)) (now (table .entry)) (now (channel .entry)) (now (output .entry)))) ⌝ }
     {
-        let mut rows = [0u8; Machine::OPS];
-        let mut counts = [0u16; Machine::OPS];
-        let mut needs = [0u16; Machine::OPS];
-        let mut payloads = [0u32; Machine::OPS];
-        let read = patch_reader::reader::load(
-            bytes,
-            &mut rows,
-            &mut counts,
-            &mut needs,
-            &mut payloads,
-        );
-        let number = read.number;
-        if number != 0 {
-            return Ran {
-                answer: Answer::BadFile(number, read.place),
-                steps: 0,
-                machine: self,
-            };
-        }
-        let n = read.ops;
         let h = self.numbers;
         let mut calls = self.calls;
         let mut refs = self.refs;
@@ -52,7 +44,7 @@ impl Machine {
             h,
             &calls,
             &refs,
-            &rows[..n],
+            rows,
             register,
             tape,
             table,
@@ -68,10 +60,13 @@ impl Machine {
         }
         let ended = go(
             h,
-            &rows[..n],
-            &counts[..n],
-            &needs[..n],
-            &payloads[..n],
+            rows,
+            counts,
+            needs,
+            payloads,
+            partners,
+            turns,
+            marks,
             bytes,
             &mut calls,
             &mut refs,
@@ -93,6 +88,93 @@ impl Machine {
             steps: ended.steps,
             machine: self,
         }
+    }
+
+    // The run of a patch whose ops are loaded: their partners are found first.
+    pub fn run_loaded(
+        self,
+        rows: &[u8],
+        counts: &[u16],
+        needs: &[u16],
+        payloads: &[u32],
+        bytes: &[u8],
+        register: &mut [u64],
+        tape: &mut [u64],
+        table: &mut [u16],
+        channel: &mut [u64],
+        input: &[u64],
+        output: &mut [u64],
+        budget: u32,
+    ) -> Ran
+        requires { ⌜ IsLoaded (now bytes) (now rows) (now counts) (now needs) (now payloads) ⌝ }
+        ensures { λ r. ⌜ ranTo r (slices (now (register .exit)) (now (tape .exit)) (now (table .exit)) (now (channel .exit)) (now (output .exit))) ≡ runCall (now (bytes .entry)) (now (input .entry)) budget (lent self (slices (now (register .entry)) (now (tape .entry)) (now (table .entry)) (now (channel .entry)) (now (output .entry)))) ⌝ }
+    {
+        let mut partners = [NOWHERE; Machine::OPS];
+        let mut turns = [NOWHERE; Machine::OPS];
+        let mut marks = [NOWHERE; Machine::MARKS];
+        let first = find_partners(rows, &mut partners, &mut turns, &mut marks);
+        let n = rows.len();
+        self.run_read(
+            rows,
+            counts,
+            needs,
+            payloads,
+            &partners[..n],
+            &turns[..n],
+            &marks[first..],
+            bytes,
+            register,
+            tape,
+            table,
+            channel,
+            input,
+            output,
+            budget,
+        )
+    }
+
+    // Steps until the machine is finished, a step is refused, or so many are made.
+    pub fn run(
+        self,
+        bytes: &[u8],
+        register: &mut [u64],
+        tape: &mut [u64],
+        table: &mut [u16],
+        channel: &mut [u64],
+        input: &[u64],
+        output: &mut [u64],
+        budget: u32,
+    ) -> Ran
+        ensures { λ r. ⌜ ranTo r (slices (now (register .exit)) (now (tape .exit)) (now (table .exit)) (now (channel .exit)) (now (output .exit))) ≡ runCall (now (bytes .entry)) (now (input .entry)) budget (lent self (slices (now (register .entry)) (now (tape .entry)) (now (table .entry)) (now (channel .entry)) (now (output .entry)))) ⌝ }
+    {
+        let mut rows = [0u8; Machine::OPS];
+        let mut counts = [0u16; Machine::OPS];
+        let mut needs = [0u16; Machine::OPS];
+        let mut payloads = [0u32; Machine::OPS];
+        let read = load(bytes, &mut rows, &mut counts, &mut needs, &mut payloads);
+        let number = read.number;
+        if number != 0 {
+            return Ran {
+                answer: Answer::BadFile(number, read.place),
+                steps: 0,
+                machine: self,
+            };
+        }
+        let n = read.ops;
+        self.run_loaded(
+            &rows[..n],
+            &counts[..n],
+            &needs[..n],
+            &payloads[..n],
+            bytes,
+            register,
+            tape,
+            table,
+            channel,
+            input,
+            output,
+            budget,
+        )
     }
 
     // One step: a run of at most one. Where none was made its answer says why.

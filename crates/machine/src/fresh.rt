@@ -1,12 +1,12 @@
-// The fresh run: it reads the patch first, then tests the lent room, then writes its zeros and works.
+// The fresh run: it reads the patch first, then tests the lent room, then writes its zeros and works as any run.
 ghost use mathlib.Core.Path.{_≡_};
 ghost use Prim.Native.Nat.{ℕ};
 ghost use Rattle.machine_step.specs.Held.{slices};
 ghost use Rattle.machine.specs.Calls.{ranTo, freshCall};
-use crate::going::go;
 use crate::machine::Machine;
 use crate::machine::Ran;
 use answers::run::Answer;
+use patch_reader::reader::load;
 use states::formed::has_room;
 use states::zeros::zero;
 
@@ -28,14 +28,8 @@ impl Machine {
         let mut counts = [0u16; Machine::OPS];
         let mut needs = [0u16; Machine::OPS];
         let mut payloads = [0u32; Machine::OPS];
-        let mut m = Machine::fresh();
-        let read = patch_reader::reader::load(
-            bytes,
-            &mut rows,
-            &mut counts,
-            &mut needs,
-            &mut payloads,
-        );
+        let m = Machine::fresh();
+        let read = load(bytes, &mut rows, &mut counts, &mut needs, &mut payloads);
         let number = read.number;
         if number != 0 {
             return Ran {
@@ -44,7 +38,6 @@ impl Machine {
                 machine: m,
             };
         }
-        let n = read.ops;
         if !has_room(register, table, channel) {
             return Ran {
                 answer: Answer::NotAState,
@@ -55,18 +48,13 @@ impl Machine {
         let cells = tape.len();
         zero(register, Machine::LANES);
         zero(tape, cells);
-        let h = m.numbers;
-        let mut calls = m.calls;
-        let mut refs = m.refs;
-        let ended = go(
-            h,
+        let n = read.ops;
+        m.run_loaded(
             &rows[..n],
             &counts[..n],
             &needs[..n],
             &payloads[..n],
             bytes,
-            &mut calls,
-            &mut refs,
             register,
             tape,
             table,
@@ -74,16 +62,6 @@ impl Machine {
             input,
             output,
             budget,
-        );
-        let answer = ended.answer;
-        let left = ended.numbers;
-        m.numbers = left;
-        m.calls = calls;
-        m.refs = refs;
-        Ran {
-            answer,
-            steps: ended.steps,
-            machine: m,
-        }
+        )
     }
 }

@@ -6,7 +6,6 @@ ghost use Rattle.bridge.specs.Run.{ran, runOf};
 ghost use Rattle.machine.specs.Ready.{ReadyToRun, overOf};
 use answers::run::Answer;
 use machine_numbers::numbers::Numbers;
-use patch_reader::reader::Read;
 
 // What the steps leave beside the stacks and the slices.
 pub struct Ended {
@@ -32,6 +31,9 @@ pub fn go(
     counts: &[u16],
     needs: &[u16],
     payloads: &[u32],
+    partners: &[u16],
+    turns: &[u16],
+    marks: &[u16],
     bytes: &[u8],
     calls: &mut [u16; Numbers::CALLS],
     refs: &mut [u32; Numbers::REFS],
@@ -43,10 +45,9 @@ pub fn go(
     output: &mut [u64],
     budget: u32,
 ) -> Ended
-    requires { ⌜ ReadyToRun (now bytes) (now input) (code (now rows) (now counts) (now needs) (now payloads) (now bytes)) (held numbers (now calls) (now refs) (now register) (now tape) (now table) (now channel) (now output)) ⌝ }
-    ensures { λ r. ⌜ ran (r .answer) (r .steps) (held (r .numbers) (now (calls .exit)) (now (refs .exit)) (now (register .exit)) (now (tape .exit)) (now (table .exit)) (now (channel .exit)) (now (output .exit))) ≡ runOf budget 0 (code (now (rows .entry)) (now (counts .entry)) (now (needs .entry)) (now (payloads .entry)) (now (bytes .entry))) (now (input .entry)) (held numbers (now (calls .entry)) (now (refs .entry)) (now (register .entry)) (now (tape .entry)) (now (table .entry)) (now (channel .entry)) (now (output .entry))) ⌝ }
+    requires { ⌜ ReadyToRun (now bytes) (now input) (code (now rows) (now counts) (now needs) (now payloads) (now partners) (now turns) (now marks) (now bytes)) (held numbers (now calls) (now refs) (now register) (now tape) (now table) (now channel) (now output)) ⌝ }
+    ensures { λ r. ⌜ ran (r .answer) (r .steps) (held (r .numbers) (now (calls .exit)) (now (refs .exit)) (now (register .exit)) (now (tape .exit)) (now (table .exit)) (now (channel .exit)) (now (output .exit))) ≡ runOf budget 0 (code (now (rows .entry)) (now (counts .entry)) (now (needs .entry)) (now (payloads .entry)) (now (partners .entry)) (now (turns .entry)) (now (marks .entry)) (now (bytes .entry))) (now (input .entry)) (held numbers (now (calls .entry)) (now (refs .entry)) (now (register .entry)) (now (tape .entry)) (now (table .entry)) (now (channel .entry)) (now (output .entry))) ⌝ }
 {
-    let mut partners = [0u16; Read::OPS];
     let mut h = numbers;
     let mut steps: u32 = 0;
     loop {
@@ -64,14 +65,15 @@ pub fn go(
                 numbers: h,
             };
         }
-        let with = searches::scan::look_up(rows, &mut partners, h.position);
         let out = machine_step::step::step(
             h,
             rows,
             counts,
             needs,
             payloads,
-            with,
+            partners,
+            turns,
+            marks,
             bytes,
             calls,
             refs,

@@ -55,13 +55,18 @@ taping c x = after (x .answer) (c .calls) (x .refs) (x .register) (x .tape) (c .
 abbrev pub telling : Held → Told → After
 telling c x = after (x .answer) (c .calls) (c .refs) (x .register) (c .tape) (c .table) (x .channel) (x .output)
 
--- a patch as the machine reads it: of each op its row, what it counts, the lanes it needs and its payload's place; and the bytes
+-- a patch as it is read: of each op its row, what it counts, the lanes it needs, its payload's place, its partner and an If's Else; the places
+-- of its marks; and the bytes
 pub record Code : Type 0 where
   pub rows : List ℕ
   pub counts : List ℕ
   pub needs : List ℕ
   pub payloads : List ℕ
+  pub partners : List ℕ
+  pub turns : List ℕ
+  pub marks : List ℕ
   pub bytes : List ℕ
 
-abbrev pub code : List ℕ → List ℕ → List ℕ → List ℕ → List ℕ → Code
-code ks ns ds ps bs = record { rows = ks; counts = ns; needs = ds; payloads = ps; bytes = bs }
+abbrev pub code : List ℕ → List ℕ → List ℕ → List ℕ → List ℕ → List ℕ → List ℕ → List ℕ → Code
+code ks ns ds ps es ts fs bs =
+    record { rows = ks; counts = ns; needs = ds; payloads = ps; partners = es; turns = ts; marks = fs; bytes = bs }

@@ -1,8 +1,8 @@
-// One step: the op at the position, once its lanes are there. Its partner is given.
+// One step: the op at the position, once its lanes are there. Where it may lead is stored beside it.
 ghost use mathlib.Core.Path.{_≡_};
 ghost use lib.ListN.{getD};
 ghost use Rattle.machine_numbers.specs.Asks.{PayloadIn};
-ghost use Rattle.searches.specs.Found.{partnerOf};
+ghost use Rattle.partners.specs.Columns.{Stored};
 ghost use Rattle.machine_step.specs.Held.{held, after, code};
 ghost use Rattle.machine_step.specs.Step.{opOf, stepOf};
 ghost use Rattle.machine_step.specs.Payloads.{PayloadsInBytes};
@@ -14,14 +14,16 @@ use kind_table::kinds::family_at;
 use machine_numbers::numbers::Numbers;
 use machine_numbers::numbers::OpAnswer;
 
-// The op at the position: of row k, it counts n, its payload is at byte a, and its partner stands at `with`.
+// The op at the position: of row k, it counts n and its payload is at byte a.
 fn op(
     h: Numbers,
     k: u8,
     n: usize,
     a: usize,
     rows: &[u8],
-    with: usize,
+    partners: &[u16],
+    turns: &[u16],
+    marks: &[u16],
     bytes: &[u8],
     calls: &mut [u16; Numbers::CALLS],
     refs: &mut [u32; Numbers::REFS],
@@ -32,12 +34,22 @@ fn op(
     input: &[u64],
     output: &mut [u64],
 ) -> OpAnswer
-    requires { ⌜ CanStep (now rows) (held h (now calls) (now refs) (now register) (now tape) (now table) (now channel) (now output)) × PayloadIn k n a (now bytes) × (k ≡ getD (now rows) (h .position) 0) × (with ≡ partnerOf (now rows) (h .position)) ⌝ }
+    requires { ⌜ CanStep (now rows) (held h (now calls) (now refs) (now register) (now tape) (now table) (now channel) (now output)) × PayloadIn k n a (now bytes) × (k ≡ getD (now rows) (h .position) 0) × Stored (now rows) (now partners) (now turns) (now marks) ⌝ }
     ensures { λ r. ⌜ after r (now (calls .exit)) (now (refs .exit)) (now (register .exit)) (now (tape .exit)) (now (table .exit)) (now (channel .exit)) (now (output .exit)) ≡ opOf k n a (now (rows .entry)) (now (bytes .entry)) (now (input .entry)) (held h (now (calls .entry)) (now (refs .entry)) (now (register .entry)) (now (tape .entry)) (now (table .entry)) (now (channel .entry)) (now (output .entry))) ⌝ }
 {
     let f = family_at(k);
     match f {
-        family::CONTROL => control_ops::control::control(h, k, with, rows, calls, register, table),
+        family::CONTROL => control_ops::control::control(
+            h,
+            k,
+            rows,
+            partners,
+            turns,
+            marks,
+            calls,
+            register,
+            table,
+        ),
         family::CELL => lane_ops::lane::cell(h, k, n, register, tape),
         family::LANE => lane_ops::lane::alone(h, k, n, register),
         family::DEVICE => device_ops::device::device(
@@ -65,7 +77,9 @@ pub fn step(
     counts: &[u16],
     needs: &[u16],
     payloads: &[u32],
-    with: usize,
+    partners: &[u16],
+    turns: &[u16],
+    marks: &[u16],
     bytes: &[u8],
     calls: &mut [u16; Numbers::CALLS],
     refs: &mut [u32; Numbers::REFS],
@@ -76,8 +90,8 @@ pub fn step(
     input: &[u64],
     output: &mut [u64],
 ) -> OpAnswer
-    requires { ⌜ CanStep (now rows) (held h (now calls) (now refs) (now register) (now tape) (now table) (now channel) (now output)) × PayloadsInBytes (code (now rows) (now counts) (now needs) (now payloads) (now bytes)) × (with ≡ partnerOf (now rows) (h .position)) ⌝ }
-    ensures { λ r. ⌜ after r (now (calls .exit)) (now (refs .exit)) (now (register .exit)) (now (tape .exit)) (now (table .exit)) (now (channel .exit)) (now (output .exit)) ≡ stepOf (code (now (rows .entry)) (now (counts .entry)) (now (needs .entry)) (now (payloads .entry)) (now (bytes .entry))) (now (input .entry)) (held h (now (calls .entry)) (now (refs .entry)) (now (register .entry)) (now (tape .entry)) (now (table .entry)) (now (channel .entry)) (now (output .entry))) ⌝ }
+    requires { ⌜ CanStep (now rows) (held h (now calls) (now refs) (now register) (now tape) (now table) (now channel) (now output)) × PayloadsInBytes (code (now rows) (now counts) (now needs) (now payloads) (now partners) (now turns) (now marks) (now bytes)) × Stored (now rows) (now partners) (now turns) (now marks) ⌝ }
+    ensures { λ r. ⌜ after r (now (calls .exit)) (now (refs .exit)) (now (register .exit)) (now (tape .exit)) (now (table .exit)) (now (channel .exit)) (now (output .exit)) ≡ stepOf (code (now (rows .entry)) (now (counts .entry)) (now (needs .entry)) (now (payloads .entry)) (now (partners .entry)) (now (turns .entry)) (now (marks .entry)) (now (bytes .entry))) (now (input .entry)) (held h (now (calls .entry)) (now (refs .entry)) (now (register .entry)) (now (tape .entry)) (now (table .entry)) (now (channel .entry)) (now (output .entry))) ⌝ }
 {
     let at = h.position;
     let k = rows[at];
@@ -93,7 +107,9 @@ pub fn step(
         n,
         a,
         rows,
-        with,
+        partners,
+        turns,
+        marks,
         bytes,
         calls,
         refs,

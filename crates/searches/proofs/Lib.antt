@@ -1,4 +1,2 @@
-pub mod Partners
-pub mod Scans
 pub mod Tables
 pub mod Moves

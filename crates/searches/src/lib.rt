@@ -1,3 +1,2 @@
-// What a run searches for: the partner of an op, the n-th Function mark, and the place of a function in the table.
-pub mod scan; // the search for a partner
+// What a run searches for: the place of a function in the table.
 pub mod table; // the function table

@@ -18,7 +18,7 @@ use Rattle.machine_model.specs.State.{Given}
 use Rattle.machine_model.specs.Scan.{opAt, functions}
 use Rattle.machine_model.specs.Formed.{Each, Rising, Marked, Whole}
 use Rattle.machine_model.proofs.Each.{each-to}
-use Rattle.searches.specs.Found.{rowFunction}
+use Rattle.partners.specs.Columns.{rowFunction}
 use Rattle.machine_numbers.specs.declared.numbers.Numbers.{Numbers}
 use Rattle.machine_step.specs.Held.{Held}
 use Rattle.bridge.specs.Decoded.{codeOf, givenOf}

@@ -3,6 +3,7 @@ use borrow.Author.Tests.{le-leb, lt-leb, le-ltb, lt-ltb}
 use Rattle.basics.specs.Pick.{pick}
 use Rattle.control_ops.specs.Control.{callOf}
 use borrow.Author.Needs.{needs}
+use Rattle.partners.proofs.Marks.{nth-by}
 use Rattle.control_ops.proofs.control.call.Statement.{statement}
 use Rattle.control_ops.proofs.control.call.Tie as tie
 
@@ -17,13 +18,14 @@ unfolding callOf pick
 returns-4 c =
     let f = c .before .before in
     let t = f .before in
+    let a = t .before .before .before .before .before .before .before .before in
     simp (
       le-leb _ _ (c .before .if4 .taken),
       le-ltb _ _ (t .if3 .left),
       lt-leb _ _ (t .before .if2 .left),
       lt-leb _ _ (t .before .before .if1 .left),
       c .refuse3 .ensures,
-      ← f .nth-function .ensures,
+      ← nth-by _ _ _ _ (a .pre .1) (f .nth-function .ensures),
     )
 
 returns-5 : tie.Need-returns-5
@@ -32,6 +34,7 @@ returns-5 c =
     let d = c .before .before .before in
     let f = d .before .before .before in
     let t = f .before in
+    let a = t .before .before .before .before .before .before .before .before in
     simp (
       lt-leb _ _ (d .before .before .if4 .left),
       le-ltb _ _ (t .if3 .left),
@@ -40,7 +43,7 @@ returns-5 c =
       c .goto2 .ensures,
       d .enter .ensures .0,
       d .enter .ensures .1,
-      ← f .nth-function .ensures,
+      ← nth-by _ _ _ _ (a .pre .1) (f .nth-function .ensures),
     )
 
 pub call-spec : {M : Type 1} → statement M
