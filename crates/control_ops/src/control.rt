@@ -4,7 +4,7 @@ ghost use Prim.Native.Nat.{_+_, _≤_, _<_};
 ghost use lib.ListN.{length, getD, take};
 ghost use Rattle.basics.specs.Limits.{mostOps, lanes, depth};
 ghost use Rattle.machine_numbers.specs.Numbers.{oneList, steered};
-ghost use Rattle.partners.specs.Columns.{Stored, functionsOf, endOf, elseOf, openOf};
+ghost use Rattle.partners.specs.Columns.{Places, functionsOf, endOf, elseOf, openOf};
 ghost use Rattle.control_ops.specs.CanSteer.{CanSteer};
 ghost use Rattle.control_ops.specs.Control.{jumpOf, functionOf, callOf, retOf, whileOf, ifOf, elsesOf, endsOf, controlOf};
 ghost use Rattle.machine_model.specs.Formed.{Rising};
@@ -136,30 +136,30 @@ fn end(h: Numbers, rows: &[u8], opener: usize, register: &[u64]) -> OpAnswer
     h.next()
 }
 
-// The op of row k. Where it may lead is read off the stored places.
+// The op of row k, whose partner is stored as `with`. An If's Else is read off its column.
 pub fn control(
     h: Numbers,
     k: u8,
+    with: usize,
     rows: &[u8],
-    partners: &[u16],
     turns: &[u16],
     marks: &[u16],
     calls: &mut [u16; Numbers::CALLS],
     register: &[u64],
     table: &mut [u16],
 ) -> OpAnswer
-    requires { ⌜ CanSteer h (now rows) (now calls) (now register) (now table) × (k ≡ getD (now rows) (h .position) 0) × Stored (now rows) (now partners) (now turns) (now marks) ⌝ }
+    requires { ⌜ CanSteer h (now rows) (now calls) (now register) (now table) × (k ≡ getD (now rows) (h .position) 0) × Places (now rows) (h .position) with (now turns) (now marks) ⌝ }
     ensures { λ r. ⌜ steered r (now (calls .exit)) (now (table .exit)) ≡ controlOf k (now (rows .entry)) h (now (calls .entry)) (now (register .entry)) (now (table .entry)) ⌝ }
 {
     let p = h.position;
     match k {
-        row::FUNCTION => function(h, rows, wide_short(partners[p]), table),
+        row::FUNCTION => function(h, rows, with, table),
         row::CALL => call(h, rows, marks, calls, register, table),
         row::RETURN => ret(h, calls),
-        row::WHILE => while_op(h, rows, wide_short(partners[p]), register),
-        row::IF => if_op(h, rows, scan::first_of(turns[p], partners[p]), register),
-        row::ELSE => else_op(h, rows, wide_short(partners[p])),
-        row::END => end(h, rows, wide_short(partners[p]), register),
+        row::WHILE => while_op(h, rows, with, register),
+        row::IF => if_op(h, rows, scan::first_of(turns[p], with), register),
+        row::ELSE => else_op(h, rows, with),
+        row::END => end(h, rows, with, register),
         _ => h.next(),
     }
 }

@@ -19,9 +19,10 @@ use Rattle.ops.specs.Patch.{patchOf}
 use Rattle.file_laws.proofs.Items.{few-items}
 use Rattle.machine_model.specs.Step.{Outcome, step}
 use Rattle.machine_model.specs.Step.Outcome.{next}
-use Rattle.partners.specs.Columns.{Stored}
+use Rattle.partners.specs.Columns.{Stored, Places, partnersOf}
+use Rattle.partners.proofs.Stored.{partner-at}
 use Rattle.machine_numbers.specs.declared.numbers.Numbers.{Numbers}
-use Rattle.machine_step.specs.Held.{Held, After, Code}
+use Rattle.machine_step.specs.Held.{Held, After, Code, code}
 use Rattle.machine_step.specs.Step.{stepOf}
 use Rattle.bridge.specs.View.{view, laid}
 use Rattle.bridge.specs.Decoded.{codeOf, givenTo}
@@ -98,10 +99,31 @@ op-here s input x c h e =
     let n : length (x .rows) ≡ length (patchOf s .items) = ap (λ (y : Code). length (y .rows)) (h .read) ∙ many-rows s in
     (not-past (c .numbers) _ e, omega (arith, n, few-items s))
 
+-- the places that are stored, and what a step is told of them
+places : (s : List ℕ) (x : Code) → x ≡ codeOf s → Stored (x .rows) (x .partners) (x .turns) (x .marks)
+places s x e = subst (λ (y : Code). Stored (y .rows) (y .partners) (y .turns) (y .marks)) (sym e) (places-stored s)
+
+abbrev pub withStored : Code → Code
+withStored x = code (x .rows) (x .counts) (x .needs) (x .payloads) (partnersOf (x .rows)) (x .turns) (x .marks) (x .bytes)
+
+stored-again : (s : List ℕ) (x : Code) → x ≡ codeOf s → withStored x ≡ x
+unfolding codeOf
+stored-again s x e = ap withStored e ∙ sym e
+
+-- a step over them is a step over the patch that is read
+pub stepped-as : (s input : List ℕ) (x : Code) (c : Held) → ReadyToRun s input x c → (o : After) → o ≡ stepOf (withStored x) input c → o ≡ stepOf x input c
+stepped-as s input x c h o q = q ∙ ap (λ (y : Code). stepOf y input c) (stored-again s x (h .read))
+
+-- the op at the position has its partner
+pub partner-here : (s input : List ℕ) (x : Code) (c : Held) → ReadyToRun s input x c → overOf (c .numbers) (length (x .rows)) ≡ false
+    → c .numbers .position < length (x .partners)
+partner-here s input x c h e = partner-at (x .rows) (x .partners) (places s x (h .read) .partners) (c .numbers .position) (op-here s input x c h e .0) .0
+
 -- what a step asks
 pub step-asks : (s input : List ℕ) (x : Code) (c : Held) → ReadyToRun s input x c → overOf (c .numbers) (length (x .rows)) ≡ false
-    → CanStep (x .rows) c × PayloadsInBytes x × Stored (x .rows) (x .partners) (x .turns) (x .marks)
-step-asks s input x c h e =
+    → (w : ℕ) → w ≡ getD (x .partners) (c .numbers .position) 0
+    → CanStep (x .rows) c × PayloadsInBytes (withStored x) × Places (x .rows) (c .numbers .position) w (x .turns) (x .marks)
+step-asks s input x c h e w q =
     let k = h .fits .counted in
     let f = h .fits .formed in
     let o = op-here s input x c h e in (
@@ -112,8 +134,8 @@ step-asks s input x c h e =
         near = f .near;
         short = f .short;
       },
-      subst (λ (y : Code). PayloadsInBytes y) (sym (h .read)) (payloads-in-bytes s),
-      subst (λ (y : Code). Stored (y .rows) (y .partners) (y .turns) (y .marks)) (sym (h .read)) (places-stored s),
+      subst (λ (y : Code). PayloadsInBytes y) (sym (stored-again s x (h .read) ∙ h .read)) (payloads-in-bytes s),
+      let p = places s x (h .read) in record { partner = q ∙ partner-at (x .rows) (x .partners) (p .partners) (c .numbers .position) (o .0) .1; turns = p .turns; marks = p .marks },
     )
 
 -- what a step leaves where it goes on is good and well formed

@@ -5,6 +5,7 @@ ghost use Rattle.machine_step.specs.Held.{held, code};
 ghost use Rattle.bridge.specs.Run.{ran, runOf};
 ghost use Rattle.machine.specs.Ready.{ReadyToRun, overOf};
 use answers::run::Answer;
+use basics::wide::wide_short;
 use machine_numbers::numbers::Numbers;
 
 // What the steps leave beside the stacks and the slices.
@@ -65,13 +66,15 @@ pub fn go(
                 numbers: h,
             };
         }
+        let at = h.position;
+        let with = wide_short(partners[at]);
         let out = machine_step::step::step(
             h,
             rows,
             counts,
             needs,
             payloads,
-            partners,
+            with,
             turns,
             marks,
             bytes,

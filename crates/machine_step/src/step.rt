@@ -1,8 +1,8 @@
-// One step: the op at the position, once its lanes are there. Where it may lead is stored beside it.
+// One step: the op at the position, once its lanes are there. Its partner is given as it is stored.
 ghost use mathlib.Core.Path.{_≡_};
 ghost use lib.ListN.{getD};
 ghost use Rattle.machine_numbers.specs.Asks.{PayloadIn};
-ghost use Rattle.partners.specs.Columns.{Stored};
+ghost use Rattle.partners.specs.Columns.{Places, partnersOf};
 ghost use Rattle.machine_step.specs.Held.{held, after, code};
 ghost use Rattle.machine_step.specs.Step.{opOf, stepOf};
 ghost use Rattle.machine_step.specs.Payloads.{PayloadsInBytes};
@@ -21,7 +21,7 @@ fn op(
     n: usize,
     a: usize,
     rows: &[u8],
-    partners: &[u16],
+    with: usize,
     turns: &[u16],
     marks: &[u16],
     bytes: &[u8],
@@ -34,7 +34,7 @@ fn op(
     input: &[u64],
     output: &mut [u64],
 ) -> OpAnswer
-    requires { ⌜ CanStep (now rows) (held h (now calls) (now refs) (now register) (now tape) (now table) (now channel) (now output)) × PayloadIn k n a (now bytes) × (k ≡ getD (now rows) (h .position) 0) × Stored (now rows) (now partners) (now turns) (now marks) ⌝ }
+    requires { ⌜ CanStep (now rows) (held h (now calls) (now refs) (now register) (now tape) (now table) (now channel) (now output)) × PayloadIn k n a (now bytes) × (k ≡ getD (now rows) (h .position) 0) × Places (now rows) (h .position) with (now turns) (now marks) ⌝ }
     ensures { λ r. ⌜ after r (now (calls .exit)) (now (refs .exit)) (now (register .exit)) (now (tape .exit)) (now (table .exit)) (now (channel .exit)) (now (output .exit)) ≡ opOf k n a (now (rows .entry)) (now (bytes .entry)) (now (input .entry)) (held h (now (calls .entry)) (now (refs .entry)) (now (register .entry)) (now (tape .entry)) (now (table .entry)) (now (channel .entry)) (now (output .entry))) ⌝ }
 {
     let f = family_at(k);
@@ -42,8 +42,8 @@ fn op(
         family::CONTROL => control_ops::control::control(
             h,
             k,
+            with,
             rows,
-            partners,
             turns,
             marks,
             calls,
@@ -77,7 +77,7 @@ pub fn step(
     counts: &[u16],
     needs: &[u16],
     payloads: &[u32],
-    partners: &[u16],
+    with: usize,
     turns: &[u16],
     marks: &[u16],
     bytes: &[u8],
@@ -90,8 +90,8 @@ pub fn step(
     input: &[u64],
     output: &mut [u64],
 ) -> OpAnswer
-    requires { ⌜ CanStep (now rows) (held h (now calls) (now refs) (now register) (now tape) (now table) (now channel) (now output)) × PayloadsInBytes (code (now rows) (now counts) (now needs) (now payloads) (now partners) (now turns) (now marks) (now bytes)) × Stored (now rows) (now partners) (now turns) (now marks) ⌝ }
-    ensures { λ r. ⌜ after r (now (calls .exit)) (now (refs .exit)) (now (register .exit)) (now (tape .exit)) (now (table .exit)) (now (channel .exit)) (now (output .exit)) ≡ stepOf (code (now (rows .entry)) (now (counts .entry)) (now (needs .entry)) (now (payloads .entry)) (now (partners .entry)) (now (turns .entry)) (now (marks .entry)) (now (bytes .entry))) (now (input .entry)) (held h (now (calls .entry)) (now (refs .entry)) (now (register .entry)) (now (tape .entry)) (now (table .entry)) (now (channel .entry)) (now (output .entry))) ⌝ }
+    requires { ⌜ CanStep (now rows) (held h (now calls) (now refs) (now register) (now tape) (now table) (now channel) (now output)) × PayloadsInBytes (code (now rows) (now counts) (now needs) (now payloads) (partnersOf (now rows)) (now turns) (now marks) (now bytes)) × Places (now rows) (h .position) with (now turns) (now marks) ⌝ }
+    ensures { λ r. ⌜ after r (now (calls .exit)) (now (refs .exit)) (now (register .exit)) (now (tape .exit)) (now (table .exit)) (now (channel .exit)) (now (output .exit)) ≡ stepOf (code (now (rows .entry)) (now (counts .entry)) (now (needs .entry)) (now (payloads .entry)) (partnersOf (now (rows .entry))) (now (turns .entry)) (now (marks .entry)) (now (bytes .entry))) (now (input .entry)) (held h (now (calls .entry)) (now (refs .entry)) (now (register .entry)) (now (tape .entry)) (now (table .entry)) (now (channel .entry)) (now (output .entry))) ⌝ }
 {
     let at = h.position;
     let k = rows[at];
@@ -107,7 +107,7 @@ pub fn step(
         n,
         a,
         rows,
-        partners,
+        with,
         turns,
         marks,
         bytes,

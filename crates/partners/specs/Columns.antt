@@ -105,6 +105,12 @@ pub record Stored (ks ps ts fs : List ℕ) : Type 0 where
   pub turns : ts ≡ turnsOf ks
   pub marks : fs ≡ functionsOf ks
 
+-- what the op at i is given of them: its partner, the column of the Elses, and the marks
+pub record Places (ks : List ℕ) (i with : ℕ) (ts fs : List ℕ) : Type 0 where
+  pub partner : with ≡ partnerAt ks i
+  pub turns : ts ≡ turnsOf ks
+  pub marks : fs ≡ functionsOf ks
+
 -- the first of two stored places that is one: an If's Else, or else its End
 unfoldable pub firstOf : ℕ → ℕ → ℕ
 unfolding pick

@@ -133,11 +133,11 @@ pub fn find_partners(
 }
 
 // The first of two stored places that is one.
-pub fn first_of(turn: u16, end: u16) -> usize
+pub fn first_of(turn: u16, end: usize) -> usize
     ensures { λ r. ⌜ r ≡ firstOf turn end ⌝ }
 {
     if turn == NOWHERE {
-        return wide_short(end);
+        return end;
     }
     wide_short(turn)
 }

@@ -4,40 +4,16 @@ use native.Mathlib.Omega.{arith}
 use borrow.Author.Tests.{ne-eqb}
 use borrow.Author.Needs.{needs}
 use Rattle.basics.specs.Pick.{pick}
-use Rattle.partners.proofs.Stored.{partner-here, turn-here, function-end, while-end, if-jump, else-end, end-open}
+use Rattle.partners.proofs.Stored.{function-end, while-end, turn-here, if-jump, else-end, end-open}
 use Rattle.control_ops.specs.Control.{controlOf, inTable}
 use Rattle.control_ops.proofs.control.control.Statement.{statement}
 use Rattle.control_ops.proofs.control.control.Tie as tie
 
-function-requires : tie.Need-function-requires
-function-requires c κs =
-    let e = c .before .before .before in
-    let p = e .before .before .before .before .before .before .before .pre in
-    (c .before .wide-short .ensures .0 ∙ function-end _ _ _ _ (p .2) _ (p .0 .here) (sym (p .1) ∙ e .match .keys1), search needs, search needs, search needs, search needs)
-
-while-op-requires : tie.Need-while-op-requires
-while-op-requires c κs =
-    let e = c .before .before in
-    let p = e .before .before .before .before .before .before .before .pre in
-    (c .wide-short2 .ensures .0 ∙ while-end _ _ _ _ (p .2) _ (p .0 .here) (sym (p .1) ∙ e .match .keys4), search needs, search needs, search needs)
-
 if-op-requires : tie.Need-if-op-requires
 if-op-requires c κs =
-    let e = c .before .before .before in
-    let p = e .before .before .before .before .before .before .before .pre in
-    (c .first-of .ensures ∙ if-jump _ _ _ _ (p .2) _ (p .0 .here) (omega (arith, p .0 .few-ops)) (sym (p .1) ∙ e .match .keys5), search needs, search needs, search needs)
-
-else-op-requires : tie.Need-else-op-requires
-else-op-requires c κs =
     let e = c .before .before in
-    let p = e .before .before .before .before .before .before .before .pre in
-    (c .wide-short3 .ensures .0 ∙ else-end _ _ _ _ (p .2) _ (p .0 .here) (sym (p .1) ∙ e .match .keys6), search needs, search needs)
-
-end-requires : tie.Need-end-requires
-end-requires c κs =
-    let e = c .before .before in
-    let p = e .before .before .before .before .before .before .before .pre in
-    (c .wide-short4 .ensures .0 ∙ end-open _ _ _ _ (p .2) _ (p .0 .here) (sym (p .1) ∙ e .match .keys7), search needs, search needs, search needs)
+    let p = e .before .before .before .before .before .before .pre in
+    (c .first-of .ensures ∙ if-jump _ _ _ _ _ (p .2) (p .0 .here) (omega (arith, p .0 .few-ops)) (sym (p .1) ∙ e .match .keys5), search needs, search needs, search needs)
 
 returns-8 : tie.Need-returns-8
 unfolding controlOf pick
@@ -60,38 +36,24 @@ unfolding controlOf pick
 control-spec =
     tie.close
     (tie.spec
-    (λ c. search needs)
-    (λ c. let p = c .before .before .before .before .before .before .before .before .pre in partner-here _ _ _ _ (p .2) _ (p .0 .here))
-    (λ c κs. search needs)
-    function-requires
+    (λ c κs. let p = c .before .before .before .before .before .before .before .pre in (function-end _ _ _ _ _ (p .2) (sym (p .1) ∙ c .before .match .keys1), search needs, search needs, search needs, search needs))
     (λ c κs. search needs)
     (λ c κs. search needs)
+    (λ c κs. let p = c .before .before .before .before .before .before .pre in (while-end _ _ _ _ _ (p .2) (sym (p .1) ∙ c .match .keys4), search needs, search needs, search needs))
     (λ c. search needs)
-    (λ c. let p = c .before .before .before .before .before .before .before .before .pre in partner-here _ _ _ _ (p .2) _ (p .0 .here))
-    (λ c κs. search needs)
-    while-op-requires
-    (λ c. search needs)
-    (λ c. let p = c .before .before .before .before .before .before .before .before .pre in turn-here _ _ _ _ (p .2) _ (p .0 .here))
-    (λ c. search needs)
-    (λ c. let p = c .before .before .before .before .before .before .before .before .before .pre in partner-here _ _ _ _ (p .2) _ (p .0 .here))
+    (λ c. let p = c .before .before .before .before .before .before .before .pre in turn-here _ _ _ _ _ (p .2) (p .0 .here))
     (λ c κs. search needs)
     if-op-requires
-    (λ c. search needs)
-    (λ c. let p = c .before .before .before .before .before .before .before .before .pre in partner-here _ _ _ _ (p .2) _ (p .0 .here))
-    (λ c κs. search needs)
-    else-op-requires
-    (λ c. search needs)
-    (λ c. let p = c .before .before .before .before .before .before .before .before .pre in partner-here _ _ _ _ (p .2) _ (p .0 .here))
-    (λ c κs. search needs)
-    end-requires
+    (λ c κs. let p = c .before .before .before .before .before .before .pre in (else-end _ _ _ _ _ (p .2) (sym (p .1) ∙ c .match .keys6), search needs, search needs))
+    (λ c κs. let p = c .before .before .before .before .before .before .pre in (end-open _ _ _ _ _ (p .2) (sym (p .1) ∙ c .match .keys7), search needs, search needs, search needs))
     (λ c κs. search needs)
     (λ c. search needs)
-    (λ c. rw (c .before .before .before .before .before .before .match .keys1) (ap (inTable _) (c .before .before .function .ensures)))
+    (λ c. rw (c .before .before .before .before .match .keys1) (ap (inTable _) (c .before .before .function .ensures)))
     (λ c. search needs)
     (λ c. rw (c .before .before .before .before .before .match .keys2) (c .before .before .call .ensures))
     (λ c. rw (c .before .before .match .keys3, c .ret .ensures) refl)
-    (λ c. rw (c .before .before .before .match .keys4, c .while-op .ensures) refl)
-    (λ c. rw (c .before .before .before .before .match .keys5, c .if-op .ensures) refl)
-    (λ c. rw (c .before .before .before .match .keys6, c .else-op .ensures) refl)
-    (λ c. rw (c .before .before .before .match .keys7, c .end .ensures) refl)
+    (λ c. rw (c .before .match .keys4, c .while-op .ensures) refl)
+    (λ c. rw (c .before .before .before .match .keys5, c .if-op .ensures) refl)
+    (λ c. rw (c .before .match .keys6, c .else-op .ensures) refl)
+    (λ c. rw (c .before .match .keys7, c .end .ensures) refl)
     returns-8)

@@ -4,7 +4,7 @@ use Prim.Native.Nat.{_-_}
 use native.Mathlib.Omega.{arith}
 use borrow.Author.Needs.{needs}
 use Rattle.machine_step.specs.Held.{held, code}
-use Rattle.machine.proofs.RunLoop.{op-here, step-asks, bytes-of, Running, begin, ended, all-spent, refused-at, onward}
+use Rattle.machine.proofs.RunLoop.{op-here, partner-here, step-asks, stepped-as, bytes-of, Running, begin, ended, all-spent, refused-at, onward}
 use Rattle.machine.proofs.going.go.Statement.{statement}
 use Rattle.machine.proofs.going.go.Tie as tie
 
@@ -22,29 +22,32 @@ returns-2 c = all-spent (c .before .before .before .loop .inv) (sym (c .before .
 
 step-requires : tie.Need-step-requires Inv-loop μ-loop
 step-requires c κs =
-    let l = c .before .before .before .before .before .before .before in
-    step-asks _ _ _ _ (l .before .before .before .loop .inv .ready) (sym (l .before .before .over .ensures) ∙ l .before .if1 .left)
+    let w = c .before .before .before .before .before .before .before in
+    let l = w .before .before in
+    step-asks _ _ _ _ (l .before .before .before .loop .inv .ready) (sym (l .before .before .over .ensures) ∙ l .before .if1 .left) _ (w .wide-short .ensures .0)
 
 returns-3 : tie.Need-returns-3 Inv-loop μ-loop
 returns-3 c =
     let d = c .before .before .before .before .before .before .before .before .before .before .before .before in
-    let l = d .before .before .before .before .before .before .before .before in
-    refused-at (l .before .before .before .loop .inv) (sym (l .before .before .over .ensures) ∙ l .before .if1 .left) (l .if2 .left) _ (d .step .ensures) (c .if3 .taken)
+    let l = d .before .before .before .before .before .before .before .before .before .before in
+    let i = l .before .before .before .loop .inv in
+    refused-at i (sym (l .before .before .over .ensures) ∙ l .before .if1 .left) (l .if2 .left) _ (stepped-as _ _ _ _ (i .ready) _ (d .step .ensures)) (c .if3 .taken)
 
 add-steps : tie.Need-add-steps Inv-loop μ-loop
-add-steps c = let l = c .before .before .before .before .before .before .before .before .before .before .before .before .before .before .before .before .before .before .before .before in omega (arith, l .before .before .before .before .before .before .before .before .before .before .before .before .before .before .before .before .before .before .fits .budget, l .if2 .left, l .before .before .before .loop .inv .within)
+add-steps c = let l = c .before .before .before .before .before .before .before .before .before .before .before .before .before .before .before .before .before .before .before .before .before .before in omega (arith, l .before .before .before .before .before .before .before .before .before .before .before .before .before .before .before .before .before .before .fits .budget, l .if2 .left, l .before .before .before .loop .inv .within)
 
 loop-less : tie.Need-loop-less Inv-loop μ-loop
-loop-less c = let l = c .before .before .before .before .before .before .before .before .before .before .before .before .before .before .before .before .before .before .before .before in omega (arith, l .if2 .left, l .before .before .before .loop .inv .within)
+loop-less c = let l = c .before .before .before .before .before .before .before .before .before .before .before .before .before .before .before .before .before .before .before .before .before .before in omega (arith, l .if2 .left, l .before .before .before .loop .inv .within)
 
 loop-again : tie.Need-loop-again Inv-loop μ-loop
 loop-again c =
     let g = c .before .before .before .before .before .before .before .before .before .before .before in
     let d = g .before in
-    let l = d .before .before .before .before .before .before .before .before in
+    let l = d .before .before .before .before .before .before .before .before .before .before in
+    let i = l .before .before .before .loop .inv in
     let k = l .before .before .before .before .before .before .before .before .before .before in
     let b = bytes-of (k .before .before .before .before .before .before .before .before .args .bytes .now) (k .shared-slice-known8 .given) in
-    onward (l .before .before .before .loop .inv) (sym (l .before .before .over .ensures) ∙ l .before .if1 .left) (l .if2 .left) _ (d .step .ensures) b (c .if3 .left)
+    onward i (sym (l .before .before .over .ensures) ∙ l .before .if1 .left) (l .if2 .left) _ (stepped-as _ _ _ _ (i .ready) _ (d .step .ensures)) b (c .if3 .left)
     (g .register .given) (c .before .before .before .before .before .before .before .before .before .tape .given) (c .before .before .before .before .before .before .before .table .given) (c .before .before .before .before .before .channel .given) (c .before .before .before .output .given)
 
 pub go-spec : {M : Type 1} → statement M
@@ -67,12 +70,15 @@ go-spec =
     (λ c. c .before .before .before .loop .inv .channel)
     (λ c. c .before .before .before .loop .inv .output)
     returns-2
+    (λ c. let o = op-here _ _ _ _ (c .before .before .before .loop .inv .ready) (sym (c .before .before .over .ensures) ∙ c .before .if1 .left) in omega (arith, o .0, o .1))
+    (λ c. let l = c .before in partner-here _ _ _ _ (l .before .before .before .loop .inv .ready) (sym (l .before .before .over .ensures) ∙ l .before .if1 .left))
+    (λ c κs. search needs)
     step-requires
-    (λ c. let d = c .before .before .before .before .before .before .before .before .before .before .before in d .register .given ∙ d .before .before .before .before .before .before .before .before .before .before .before .before .loop .inv .register)
-    (λ c. let d = c .before .before .before .before .before .before .before .before .before in d .tape .given ∙ d .before .before .before .before .before .before .before .before .before .before .before .before .before .before .loop .inv .tape)
-    (λ c. let d = c .before .before .before .before .before .before .before in d .table .given ∙ d .before .before .before .before .before .before .before .before .before .before .before .before .before .before .before .before .loop .inv .table)
-    (λ c. let d = c .before .before .before .before .before in d .channel .given ∙ d .before .before .before .before .before .before .before .before .before .before .before .before .before .before .before .before .before .before .loop .inv .channel)
-    (λ c. let d = c .before .before .before in d .output .given ∙ d .before .before .before .before .before .before .before .before .before .before .before .before .before .before .before .before .before .before .before .before .loop .inv .output)
+    (λ c. let d = c .before .before .before .before .before .before .before .before .before .before .before in d .register .given ∙ d .before .before .before .before .before .before .before .before .before .before .before .before .before .before .loop .inv .register)
+    (λ c. let d = c .before .before .before .before .before .before .before .before .before in d .tape .given ∙ d .before .before .before .before .before .before .before .before .before .before .before .before .before .before .before .before .loop .inv .tape)
+    (λ c. let d = c .before .before .before .before .before .before .before in d .table .given ∙ d .before .before .before .before .before .before .before .before .before .before .before .before .before .before .before .before .before .before .loop .inv .table)
+    (λ c. let d = c .before .before .before .before .before in d .channel .given ∙ d .before .before .before .before .before .before .before .before .before .before .before .before .before .before .before .before .before .before .before .before .loop .inv .channel)
+    (λ c. let d = c .before .before .before in d .output .given ∙ d .before .before .before .before .before .before .before .before .before .before .before .before .before .before .before .before .before .before .before .before .before .before .loop .inv .output)
     returns-3
     add-steps
     loop-less

@@ -37,7 +37,7 @@ op-spec =
     (λ c κs. search needs)
     (λ c κs. search needs)
     (λ c κs. search needs)
-    (λ c κs. c .before .before .before .before .before .before .before .before .before .before .before .before .before .pre .1 .by (offset-row _ (sym (c .before .family-at .ensures) ∙ c .match .keys5)))
+    (λ c κs. c .before .before .before .before .before .before .before .before .before .before .before .before .pre .1 .by (offset-row _ (sym (c .before .family-at .ensures) ∙ c .match .keys5)))
     (λ c κs. search needs)
     (λ c κs. search needs)
     (λ c κs. search needs)

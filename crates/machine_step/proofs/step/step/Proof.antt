@@ -22,7 +22,7 @@ op-requires : tie.Need-op-requires
 op-requires c κs =
     let read = c .before .before .before .before .before .before .before .before .before in
     let counted = read .before .before .before .before in
-    let asks = counted .before .before .before .before .before .before .before .before .before .before .before .before .before .before .before .before .before .pre in
+    let asks = counted .before .before .before .before .before .before .before .before .before .before .before .before .before .before .before .before .pre in
     (search needs, rw (read .wide-int .ensures .0, counted .wide-short .ensures .0) (asks .1 .each _ (asks .0 .steers .here)), search needs, asks .2)
 
 pub step-spec : {M : Type 1} → statement M

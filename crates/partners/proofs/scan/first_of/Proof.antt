@@ -10,7 +10,6 @@ unfolding firstOf
 first-of-spec =
     tie.close
     (tie.spec
+    (λ c. search tests)
     (λ c κs. search needs)
-    (λ c. search (tests, c .wide-short .ensures .0))
-    (λ c κs. search needs)
-    (λ c. search (tests, c .wide-short2 .ensures .0)))
+    (λ c. search (tests, c .wide-short .ensures .0)))
