@@ -23,79 +23,81 @@ const ABOVE: usize = STANDARD - CORE;
 // A kind's payload, the lanes that it needs, and the lanes known after it.
 pub struct Kind(pub u8, pub u8, pub u8);
 
-const KINDS: [Kind; COUNT] = [
-    Kind(shape::TEXT, need::NONE, known::KEEP), // Comment
-    Kind(shape::VALUES, need::NONE, known::OWN), // Set
-    Kind(shape::EMPTY, need::CHECKED, known::LONE), // Function
-    Kind(shape::EMPTY, need::ONE, known::LONE), // Call
-    Kind(shape::EMPTY, need::CHECKED, known::LONE), // Return
-    Kind(shape::EMPTY, need::ONE, known::LONE), // While
-    Kind(shape::EMPTY, need::ONE, known::LONE), // If
-    Kind(shape::EMPTY, need::CHECKED, known::LONE), // Else
-    Kind(shape::EMPTY, need::ONE, known::LONE), // End
-    Kind(shape::LANES, need::ALL, known::KEEP), // Store
-    Kind(shape::LANES, need::NONE, known::OWN), // Load
-    Kind(shape::MOVE, need::NONE, known::KEEP), // Move
-    Kind(shape::EMPTY, need::ONE, known::KEEP), // Where
-    Kind(shape::EMPTY, need::NONE, known::KEEP), // Deref
-    Kind(shape::EMPTY, need::NONE, known::KEEP), // Refer
-    Kind(shape::LANES, need::ALL, known::KEEP), // Index
-    Kind(shape::OFFSET, need::ALL, known::KEEP), // Offset
-    Kind(shape::LANES, need::ALL, known::KEEP), // BitwiseNand
-    Kind(shape::LANES, need::ALL, known::KEEP), // BitwiseAnd
-    Kind(shape::LANES, need::ALL, known::KEEP), // BitwiseOr
-    Kind(shape::LANES, need::ALL, known::KEEP), // BitwiseXor
-    Kind(shape::LANES, need::ALL, known::KEEP), // BitwiseNot
-    Kind(shape::LANES, need::ALL, known::KEEP), // LeftShift
-    Kind(shape::LANES, need::ALL, known::KEEP), // LogicalRightShift
-    Kind(shape::LANES, need::ALL, known::KEEP), // ArithmeticRightShift
-    Kind(shape::LANES, need::ALL, known::KEEP), // And
-    Kind(shape::LANES, need::ALL, known::KEEP), // Or
-    Kind(shape::LANES, need::ALL, known::KEEP), // Not
-    Kind(shape::LANES, need::ALL, known::KEEP), // Add
-    Kind(shape::LANES, need::ALL, known::KEEP), // Sub
-    Kind(shape::LANES, need::ALL, known::KEEP), // Mul
-    Kind(shape::LANES, need::ALL, known::KEEP), // Div
-    Kind(shape::LANES, need::ALL, known::KEEP), // Rem
-    Kind(shape::LANES, need::ALL, known::KEEP), // Neg
-    Kind(shape::LANES, need::ALL, known::KEEP), // Inc
-    Kind(shape::LANES, need::ALL, known::KEEP), // Dec
-    Kind(shape::LANES, need::ALL, known::KEEP), // Swap
-    Kind(shape::LANES, need::ALL, known::KEEP), // IsNonNegative
-    Kind(shape::MODE, need::ONE, known::KEEP), // Get
-    Kind(shape::MODE, need::ONE, known::KEEP), // Put
-    Kind(shape::VALUES, need::NONE, known::OWN), // standard Set
-    Kind(shape::EMPTY, need::ONE, known::KEEP), // Alloc
-    Kind(shape::EMPTY, need::NONE, known::KEEP), // Free
-    Kind(shape::LANES, need::ALL, known::KEEP), // ToInt
-    Kind(shape::LANES, need::ALL, known::KEEP), // ToFloat
-    Kind(shape::LANES, need::ALL, known::KEEP), // FloatAdd
-    Kind(shape::LANES, need::ALL, known::KEEP), // FloatSub
-    Kind(shape::LANES, need::ALL, known::KEEP), // FloatMul
-    Kind(shape::LANES, need::ALL, known::KEEP), // FloatDiv
-    Kind(shape::LANES, need::ALL, known::KEEP), // FloatRem
-    Kind(shape::LANES, need::ALL, known::KEEP), // FloatNeg
-    Kind(shape::LANES, need::ALL, known::KEEP), // FloatIsNonNegative
-    Kind(shape::LEFT_OUT, need::NONE, known::KEEP), // Sin
-    Kind(shape::LEFT_OUT, need::NONE, known::KEEP), // Cos
-    Kind(shape::LEFT_OUT, need::NONE, known::KEEP), // Tan
-    Kind(shape::LEFT_OUT, need::NONE, known::KEEP), // ASin
-    Kind(shape::LEFT_OUT, need::NONE, known::KEEP), // ACos
-    Kind(shape::LEFT_OUT, need::NONE, known::KEEP), // ATan
-    Kind(shape::LEFT_OUT, need::NONE, known::KEEP), // Pow
-    Kind(shape::EMPTY, need::ONE, known::KEEP), // Peek
-    Kind(shape::EMPTY, need::ONE, known::KEEP), // Poke
-    Kind(shape::LEFT_OUT, need::NONE, known::KEEP), // standard Call
+// A row is one byte, since a constant array is laid down anew at each reading: the payload times 16, the lanes needed times 4, the lanes known after.
+const KINDS: [u8; COUNT] = [
+    shape::TEXT * 16 + need::NONE * 4 + known::KEEP, // Comment
+    shape::VALUES * 16 + need::NONE * 4 + known::OWN, // Set
+    shape::EMPTY * 16 + need::CHECKED * 4 + known::LONE, // Function
+    shape::EMPTY * 16 + need::ONE * 4 + known::LONE, // Call
+    shape::EMPTY * 16 + need::CHECKED * 4 + known::LONE, // Return
+    shape::EMPTY * 16 + need::ONE * 4 + known::LONE, // While
+    shape::EMPTY * 16 + need::ONE * 4 + known::LONE, // If
+    shape::EMPTY * 16 + need::CHECKED * 4 + known::LONE, // Else
+    shape::EMPTY * 16 + need::ONE * 4 + known::LONE, // End
+    shape::LANES * 16 + need::ALL * 4 + known::KEEP, // Store
+    shape::LANES * 16 + need::NONE * 4 + known::OWN, // Load
+    shape::MOVE * 16 + need::NONE * 4 + known::KEEP, // Move
+    shape::EMPTY * 16 + need::ONE * 4 + known::KEEP, // Where
+    shape::EMPTY * 16 + need::NONE * 4 + known::KEEP, // Deref
+    shape::EMPTY * 16 + need::NONE * 4 + known::KEEP, // Refer
+    shape::LANES * 16 + need::ALL * 4 + known::KEEP, // Index
+    shape::OFFSET * 16 + need::ALL * 4 + known::KEEP, // Offset
+    shape::LANES * 16 + need::ALL * 4 + known::KEEP, // BitwiseNand
+    shape::LANES * 16 + need::ALL * 4 + known::KEEP, // BitwiseAnd
+    shape::LANES * 16 + need::ALL * 4 + known::KEEP, // BitwiseOr
+    shape::LANES * 16 + need::ALL * 4 + known::KEEP, // BitwiseXor
+    shape::LANES * 16 + need::ALL * 4 + known::KEEP, // BitwiseNot
+    shape::LANES * 16 + need::ALL * 4 + known::KEEP, // LeftShift
+    shape::LANES * 16 + need::ALL * 4 + known::KEEP, // LogicalRightShift
+    shape::LANES * 16 + need::ALL * 4 + known::KEEP, // ArithmeticRightShift
+    shape::LANES * 16 + need::ALL * 4 + known::KEEP, // And
+    shape::LANES * 16 + need::ALL * 4 + known::KEEP, // Or
+    shape::LANES * 16 + need::ALL * 4 + known::KEEP, // Not
+    shape::LANES * 16 + need::ALL * 4 + known::KEEP, // Add
+    shape::LANES * 16 + need::ALL * 4 + known::KEEP, // Sub
+    shape::LANES * 16 + need::ALL * 4 + known::KEEP, // Mul
+    shape::LANES * 16 + need::ALL * 4 + known::KEEP, // Div
+    shape::LANES * 16 + need::ALL * 4 + known::KEEP, // Rem
+    shape::LANES * 16 + need::ALL * 4 + known::KEEP, // Neg
+    shape::LANES * 16 + need::ALL * 4 + known::KEEP, // Inc
+    shape::LANES * 16 + need::ALL * 4 + known::KEEP, // Dec
+    shape::LANES * 16 + need::ALL * 4 + known::KEEP, // Swap
+    shape::LANES * 16 + need::ALL * 4 + known::KEEP, // IsNonNegative
+    shape::MODE * 16 + need::ONE * 4 + known::KEEP, // Get
+    shape::MODE * 16 + need::ONE * 4 + known::KEEP, // Put
+    shape::VALUES * 16 + need::NONE * 4 + known::OWN, // standard Set
+    shape::EMPTY * 16 + need::ONE * 4 + known::KEEP, // Alloc
+    shape::EMPTY * 16 + need::NONE * 4 + known::KEEP, // Free
+    shape::LANES * 16 + need::ALL * 4 + known::KEEP, // ToInt
+    shape::LANES * 16 + need::ALL * 4 + known::KEEP, // ToFloat
+    shape::LANES * 16 + need::ALL * 4 + known::KEEP, // FloatAdd
+    shape::LANES * 16 + need::ALL * 4 + known::KEEP, // FloatSub
+    shape::LANES * 16 + need::ALL * 4 + known::KEEP, // FloatMul
+    shape::LANES * 16 + need::ALL * 4 + known::KEEP, // FloatDiv
+    shape::LANES * 16 + need::ALL * 4 + known::KEEP, // FloatRem
+    shape::LANES * 16 + need::ALL * 4 + known::KEEP, // FloatNeg
+    shape::LANES * 16 + need::ALL * 4 + known::KEEP, // FloatIsNonNegative
+    shape::LEFT_OUT * 16 + need::NONE * 4 + known::KEEP, // Sin
+    shape::LEFT_OUT * 16 + need::NONE * 4 + known::KEEP, // Cos
+    shape::LEFT_OUT * 16 + need::NONE * 4 + known::KEEP, // Tan
+    shape::LEFT_OUT * 16 + need::NONE * 4 + known::KEEP, // ASin
+    shape::LEFT_OUT * 16 + need::NONE * 4 + known::KEEP, // ACos
+    shape::LEFT_OUT * 16 + need::NONE * 4 + known::KEEP, // ATan
+    shape::LEFT_OUT * 16 + need::NONE * 4 + known::KEEP, // Pow
+    shape::EMPTY * 16 + need::ONE * 4 + known::KEEP, // Peek
+    shape::EMPTY * 16 + need::ONE * 4 + known::KEEP, // Poke
+    shape::LEFT_OUT * 16 + need::NONE * 4 + known::KEEP, // standard Call
 ];
 
-// The row k of the table; blank beyond the last.
+// The row k of the table, taken apart; blank beyond the last.
 pub fn kind_at(k: usize) -> Kind
     ensures { λ r. ⌜ r ≡ kindAt k ⌝ }
 {
     if COUNT <= k {
         return Kind(shape::EMPTY, need::NONE, known::KEEP);
     }
-    KINDS[k]
+    let c = KINDS[k];
+    Kind(c / 16, c / 4 % 4, c % 4)
 }
 
 // The family of an op of row k: the table's last column. A step reads it at each op, and a constant array would be laid down anew at each reading, so

@@ -5,3 +5,4 @@ pub mod Kept
 pub mod Marks
 pub mod Stored
 pub mod Lent
+pub mod Whole
