@@ -9,3 +9,4 @@ pub mod File
 pub mod FlattenedIsAPatch
 pub mod Entries
 pub mod AsTheRust
+pub mod HandedOn

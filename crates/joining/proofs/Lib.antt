@@ -6,3 +6,4 @@ pub mod Records
 pub mod Sizes
 pub mod Files
 pub mod JoinedIsAPatch
+pub mod HandedOn

@@ -1,3 +1,4 @@
 pub mod Join
 pub mod Stack
 pub mod Joined
+pub mod Handed

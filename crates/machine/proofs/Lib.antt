@@ -1,4 +1,5 @@
 -- The laws behind the machine's calls, in reading order.
 pub mod RunLoop
 pub mod Called
+pub mod HandedOn
 pub mod StepIsARun

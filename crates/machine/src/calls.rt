@@ -1,6 +1,7 @@
 // A run and a step. Each reads the patch first, then tests the state, then works.
 ghost use mathlib.Core.Path.{_≡_};
 ghost use Prim.Native.Nat.{ℕ};
+ghost use Rattle.partners.specs.Read.{patchRead};
 ghost use Rattle.machine_step.specs.Held.{slices, code};
 ghost use Rattle.machine.specs.Calls.{lent, stepCall, steppedTo, runCall, ranTo};
 ghost use Rattle.machine.specs.Ready.{IsLoaded, IsRead};
@@ -9,6 +10,7 @@ use crate::machine::Machine;
 use crate::machine::Ran;
 use crate::machine::Stepped;
 use answers::run::Answer;
+use partners::patch::Patch;
 use partners::scan::NOWHERE;
 use partners::scan::find_partners;
 use patch_reader::reader::load;
@@ -166,6 +168,58 @@ impl Machine {
             &counts[..n],
             &needs[..n],
             &payloads[..n],
+            bytes,
+            register,
+            tape,
+            table,
+            channel,
+            input,
+            output,
+            budget,
+        )
+    }
+
+    // The same of a patch that was handed on, as it is read of these bytes, without reading it again.
+    pub fn run_patch(
+        self,
+        patch: Patch,
+        bytes: &[u8],
+        register: &mut [u64],
+        tape: &mut [u64],
+        table: &mut [u16],
+        channel: &mut [u64],
+        input: &[u64],
+        output: &mut [u64],
+        budget: u32,
+    ) -> Ran
+        requires { ⌜ patch ≡ patchRead (now bytes) ⌝ }
+        ensures { λ r. ⌜ ranTo r (slices (now (register .exit)) (now (tape .exit)) (now (table .exit)) (now (channel .exit)) (now (output .exit))) ≡ runCall (now (bytes .entry)) (now (input .entry)) budget (lent self (slices (now (register .entry)) (now (tape .entry)) (now (table .entry)) (now (channel .entry)) (now (output .entry)))) ⌝ }
+    {
+        let number = patch.number;
+        if number != 0 {
+            return Ran {
+                answer: Answer::BadFile(number, patch.place),
+                steps: 0,
+                machine: self,
+            };
+        }
+        let n = patch.ops;
+        let first = patch.first;
+        let rows = patch.rows;
+        let counts = patch.counts;
+        let needs = patch.needs;
+        let payloads = patch.payloads;
+        let partners = patch.partners;
+        let turns = patch.turns;
+        let marks = patch.marks;
+        self.run_read(
+            &rows[..n],
+            &counts[..n],
+            &needs[..n],
+            &payloads[..n],
+            &partners[..n],
+            &turns[..n],
+            &marks[first..],
             bytes,
             register,
             tape,

@@ -6,3 +6,4 @@ pub mod Marks
 pub mod Stored
 pub mod Lent
 pub mod Whole
+pub mod Odd
