@@ -57,6 +57,11 @@ def calls():
     return out + loop(8_000, body) + shown(1, 1)
 
 
+def nest(n):
+    """n Ifs, one in the other: each is tested once and entered, and each End is passed once. The outermost stays open: 2,048 fill a file."""
+    return [op(SET, 1)] + [op(IF)] * n + [op(END)] * (n - 1)
+
+
 def moves():
     """Moves, loads and stores of one lane and of four."""
     body = [op(MOVE, 1), op(LOAD, 1), op(MOVE, 7), op(STORE, 1), op(MOVE, -4), op(LOAD, 4), op(MOVE, 20), op(STORE, 4), op(WHERE),
@@ -170,6 +175,8 @@ def runs():
     yield "tight loop", tight(), [], 1
     yield "nested brackets", brackets(), [], 1
     yield "calls and returns", calls(), [], 1
+    yield "one thousand brackets, each tested once", nest(1024), [], 0
+    yield "two thousand brackets, each tested once", nest(2048), [], 0
     yield "moves, loads, stores", moves(), [], 8
     yield "256 routines, in order", in_order(256), [], 0
     yield "256 routines, last first", from_the_last(256), [], 0

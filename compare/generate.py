@@ -852,6 +852,17 @@ def telling():
             yield c
 
 
+def partners():
+    """Where a bracket's partner is soon mistaken: brackets that are not closed, Elses and Ends in no bracket, Ifs in each other and one after the
+    other."""
+    for text in ([IF, IF, ELSE], [IF, WHILE, ELSE], [IF, FUNCTION, ELSE], [IF, IF, END, ELSE], [IF, IF, ELSE, END], [IF, END, IF, ELSE, END],
+                 [IF, IF, ELSE, END, END], [IF, IF, ELSE, END, ELSE, END], [IF, ELSE, ELSE, END], [IF, WHILE, ELSE, END, END], [WHILE, IF, ELSE, END],
+                 [ELSE, ELSE, END], [ELSE, IF, ELSE, END, END], [ELSE, END, ELSE, END], [IF, END, ELSE, END], [WHILE, END, END, ELSE],
+                 [END, ELSE, WHILE, END, END], [WHILE, WHILE, END, ELSE, END]):
+        for lane in (0, 1):
+            yield fresh(op(SET, lane) + b"".join(op(k) + op(FREE) for k in text), budget=30)
+
+
 # ---- 01's own cases
 
 def paper():
@@ -965,7 +976,7 @@ def main(args):
     if args[:1] == ["exhaustive"]:
         cases = exhaustive()
     elif args[:1] == ["boundary"]:
-        cases = itertools.chain(paper(), boundary())
+        cases = itertools.chain(paper(), boundary(), partners())
     elif args[:1] == ["smallest"]:
         cases = (c for _, _, c in smallest())
     elif args[:1] == ["random"] and len(args) == 3:

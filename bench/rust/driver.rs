@@ -1,7 +1,7 @@
 //! Runs the same patches on our machine and on the Rust, in turn, and prints the table.
 //!
 //!     driver runs FILE REPEATS      FILE has the patches as bench/patches.py writes them
-//!     driver files FILE REPEATS     reads, checks, joins and flattens each of them
+//!     driver files FILE REPEATS     reads, checks, readies, joins and flattens each of them
 //!     driver stack FILE REPEATS     the stack that each call writes to at the most
 //!
 //! `plain` is the unchanged Rust, and what is timed; `probed` is the same with compare/'s probe below it, which counts steps and shows the state.
@@ -78,6 +78,9 @@ impl Lent {
         8 * (self.register.len() + self.tape.len() + self.channel.len() + self.output.len()) + 2 * self.table.len()
     }
     fn run(&mut self, c: &Case) -> usize {
+        self.steps(c, BUDGET)
+    }
+    fn steps(&mut self, c: &Case, budget: u32) -> usize {
         unsafe {
             feltcairn_run_fresh(
                 c.patch.as_ptr(), c.patch.len(),
@@ -87,7 +90,7 @@ impl Lent {
                 self.channel.as_mut_ptr(), self.channel.len(),
                 c.inputs.as_ptr(), c.inputs.len(),
                 self.output.as_mut_ptr(), self.output.len(),
-                BUDGET,
+                budget,
                 self.answer.as_mut_ptr(), self.answer.len(),
             )
         }
@@ -228,15 +231,17 @@ fn joined(code: Vec<StandardOp>) -> StandardProgram {
 }
 
 fn files(cases: &[Case], repeats: usize) {
-    println!("| File | Ops | Bytes | Read, us | Check, us | Join, us | the Rust's, us | Ratio | Flatten, us | the Rust's, us | Ratio |");
-    println!("|---|---|---|---|---|---|---|---|---|---|---|");
+    println!("| File | Ops | Bytes | Read, us | Check, us | Ready, us | Join, us | the Rust's, us | Ratio | Flatten, us | the Rust's, us | Ratio |");
+    println!("|---|---|---|---|---|---|---|---|---|---|---|---|");
     for c in cases {
         let (bytes, len) = (c.patch.as_ptr(), c.patch.len());
         let mut out = vec![0u8; len];
         let mut lists = vec![vec![0u32; 256]; 3];
         let mut answer = [0u64; 4];
+        let mut lent = Lent { tape: vec![0], ..Lent::new(c) };
+        assert_eq!(lent.steps(c, 0), 50, "{}: no step", c.name);
         let code = plain::patch::ops(&c.patch).unwrap().0;
-        let [mut read, mut check, mut join, mut flatten] = [(); 4].map(|_| Times::new());
+        let [mut read, mut check, mut ready, mut join, mut flatten] = [(); 5].map(|_| Times::new());
         unsafe {
             assert_eq!(feltcairn_join(bytes, len, out.as_mut_ptr(), len, answer.as_mut_ptr(), 4), 0);
             assert_eq!(plain::patch::file(&joined(code.clone()).0), out[..answer[2] as usize], "{}: joined", c.name);
@@ -248,6 +253,7 @@ fn files(cases: &[Case], repeats: usize) {
             unsafe {
                 read.ours.push(timed(|| { black_box(feltcairn_read(bytes, len, answer.as_mut_ptr(), 4)); }));
                 check.ours.push(timed(|| { black_box(feltcairn_check(bytes, len, answer.as_mut_ptr(), 4)); }));
+                ready.ours.push(timed(|| { black_box(lent.steps(c, 0)); }));
                 join.ours.push(timed(|| { black_box(feltcairn_join(bytes, len, out.as_mut_ptr(), len, answer.as_mut_ptr(), 4)); }));
                 let [a, b, d] = &mut lists[..] else { unreachable!() };
                 flatten.ours.push(timed(|| {
@@ -267,8 +273,9 @@ fn files(cases: &[Case], repeats: usize) {
         }
         let us = |v: &[f64]| least(v) / 1000.0;
         println!(
-            "| {} | {} | {} | {:.1} | {:.1} | {:.1} | {:.1} | {:.2} | {:.1} | {:.1} | {:.2} |",
-            c.name, code.len(), len, us(&read.ours), us(&check.ours), us(&join.ours), us(&join.rust), join.ratio().0, us(&flatten.ours), us(&flatten.rust), flatten.ratio().0
+            "| {} | {} | {} | {:.1} | {:.1} | {:.1} | {:.1} | {:.1} | {:.2} | {:.1} | {:.1} | {:.2} |",
+            c.name, code.len(), len, us(&read.ours), us(&check.ours), us(&ready.ours),
+            us(&join.ours), us(&join.rust), join.ratio().0, us(&flatten.ours), us(&flatten.rust), flatten.ratio().0
         );
     }
 }

@@ -11,3 +11,4 @@ pub mod Steps
 pub mod Real
 pub mod Runs
 pub mod LaidEachStep
+pub mod Partners

@@ -1,5 +1,5 @@
 -- What flattening hands on is the read of what it wrote: of the flattened ops, or of nothing where it was refused. Assumes nothing.
-use mathlib.Core.Path.{_≡_, _∙_, refl, ap}
+use mathlib.Core.Path.{_≡_, _∙_, refl, ap, sym}
 use mathlib.Core.Bool.{Bool, true, false}
 use mathlib.Core.List.{List, []}
 use Prim.Native.Nat.{ℕ, _≤_}
@@ -20,7 +20,8 @@ use Rattle.flattening.specs.declared.body.Body.{Body}
 use Rattle.flattening.specs.Flatten.{Flat, flatten}
 use Rattle.flattening.specs.Flatten.Flat.{loose, flat}
 use Rattle.flattening.specs.Flattened.{Outcome, tooShort, ofFlat, ofPatch, flattenOf}
-use Rattle.flattening.specs.Handed.{writtenIn, flattenPatchOf}
+use Rattle.flattening.specs.Handed.{Handed, handed, writtenIn, flattenPatchOf}
+use Rattle.flattening.specs.declared.handed.FlattenedPatch.{FlattenedPatch}
 
 nothing : (a : Flattened) → (numberOf a ≡ 0 → ⊥) → bytesOf a ≡ 0
 nothing (BadFile n p) z = refl
@@ -49,6 +50,12 @@ module _ (s o ns fs cs : List ℕ) where
   -- the same for an answer and lists that meet the contract of `flatten_numbers`
   pub fits-in : (x : Outcome) → x ≡ flattenOf s o ns fs cs → bytesOf (x .answer) ≤ length (x .out)
   fits-in x e = rw e within
+
+-- what a caller of `flatten_patch` has, and `run_patch` asks: the patch as it is read of the bytes that were written
+pub hands-on : (s o ns fs cs : List ℕ) (r : FlattenedPatch) (o′ ns′ fs′ cs′ : List ℕ) → handed r o′ ns′ fs′ cs′ ≡ flattenPatchOf s o ns fs cs
+    → r .patch ≡ patchRead (take (bytesOf (r .answer)) o′)
+unfolding flattenPatchOf
+hands-on s o ns fs cs r o′ ns′ fs′ cs′ e = ap (λ (h : Handed). h .patch) e ∙ ap (λ (h : Handed). patchRead (writtenIn (h .flattened))) (sym e)
 
 pub record HandedOn (s o ns fs cs : List ℕ) : Type 0 where
   pub written : (os gs : List Op) (bs : List Body) → opsOf s ≡ ops os → flatten os ≡ flat gs bs → tooShort s o ns fs cs (marksIn os) ≡ false

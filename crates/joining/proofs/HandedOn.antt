@@ -1,5 +1,5 @@
 -- What joining hands on is the read of what it wrote: of the joined ops, or of nothing where it was refused. Assumes nothing.
-use mathlib.Core.Path.{_≡_, _∙_, refl, ap}
+use mathlib.Core.Path.{_≡_, _∙_, refl, ap, sym}
 use mathlib.Core.Bool.{true, false}
 use mathlib.Core.List.{List, []}
 use Prim.Native.Nat.{ℕ, _≤_}
@@ -20,7 +20,8 @@ use Rattle.answers.specs.declared.join.Joined.the-variants.{BadFile, NoRoom, Wr
 use Rattle.partners.specs.Read.{patchRead}
 use Rattle.joining.specs.Join.{join}
 use Rattle.joining.specs.Joined.{Outcome, joinedAs, joinOf}
-use Rattle.joining.specs.Handed.{writtenIn, joinPatchOf}
+use Rattle.joining.specs.Handed.{Handed, handed, writtenIn, joinPatchOf}
+use Rattle.joining.specs.declared.handed.JoinedPatch.{JoinedPatch}
 
 -- no more was written than is lent
 module _ (s out : List ℕ) where
@@ -39,6 +40,11 @@ module _ (s out : List ℕ) where
 -- the same for an answer and bytes that meet the contract of `join`
 pub fits-in : (s out : List ℕ) (o : Outcome) → o ≡ joinOf s out → lengthOf (o .answer) ≤ length (o .bytes)
 fits-in s out o e = rw e (within s out)
+
+-- what a caller of `join_patch` has, and `run_patch` asks: the patch as it is read of the bytes that were written
+pub hands-on : (s out : List ℕ) (r : JoinedPatch) (out′ : List ℕ) → handed r out′ ≡ joinPatchOf s out → r .patch ≡ patchRead (take (lengthOf (r .answer)) out′)
+unfolding joinPatchOf
+hands-on s out r out′ e = ap (λ (h : Handed). h .patch) e ∙ ap (λ (h : Handed). patchRead (writtenIn (h .joined))) (sym e)
 
 nothing : (a : Joined) → (numberOf a ≡ 0 → ⊥) → lengthOf a ≡ 0
 nothing (BadFile n p) z = refl
