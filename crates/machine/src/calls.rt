@@ -137,7 +137,7 @@ impl Machine {
 
     // Steps until the machine is finished, a step is refused, or so many are made.
     pub fn run(
-        self,
+        mut self,
         bytes: &[u8],
         register: &mut [u64],
         tape: &mut [u64],
