@@ -34,10 +34,15 @@ returns-3 c =
     refused-at i (sym (l .before .before .over .ensures) ∙ l .before .if1 .left) (l .if2 .left) _ (stepped-as _ _ _ _ (i .ready) _ (d .step .ensures)) (c .if3 .taken)
 
 add-steps : tie.Need-add-steps Inv-loop μ-loop
-add-steps c = let l = c .before .before .before .before .before .before .before .before .before .before .before .before .before .before .before .before .before .before .before .before .before .before in omega (arith, l .before .before .before .before .before .before .before .before .before .before .before .before .before .before .before .before .before .before .fits .budget, l .if2 .left, l .before .before .before .loop .inv .within)
+add-steps c =
+    let l = c .before .before .before .before .before .before .before .before .before .before .before .before .before .before .before .before .before .before .before .before .before .before in
+    let a = l .before .before .before .before .before .before .before .before .before .before .before .before .before .before .before .before .before .before in
+    omega (arith, a .fits .budget, l .if2 .left, l .before .before .before .loop .inv .within)
 
 loop-less : tie.Need-loop-less Inv-loop μ-loop
-loop-less c = let l = c .before .before .before .before .before .before .before .before .before .before .before .before .before .before .before .before .before .before .before .before .before .before in omega (arith, l .if2 .left, l .before .before .before .loop .inv .within)
+loop-less c =
+    let l = c .before .before .before .before .before .before .before .before .before .before .before .before .before .before .before .before .before .before .before .before .before .before in
+    omega (arith, l .if2 .left, l .before .before .before .loop .inv .within)
 
 loop-again : tie.Need-loop-again Inv-loop μ-loop
 loop-again c =
