@@ -18,7 +18,7 @@ use states::formed::is_formed;
 
 impl Machine {
     // The run of a patch that is read, by its columns: the test of the state, then the steps.
-    pub fn run_read(
+    pub(crate) fn run_read(
         mut self,
         rows: &[u8],
         counts: &[u16],
@@ -93,7 +93,7 @@ impl Machine {
     }
 
     // The run of a patch whose ops are loaded: their partners are found first.
-    pub fn run_loaded(
+    pub(crate) fn run_loaded(
         self,
         rows: &[u8],
         counts: &[u16],

@@ -46,14 +46,18 @@ loop-less c =
 
 loop-again : tie.Need-loop-again Inv-loop μ-loop
 loop-again c =
-    let g = c .before .before .before .before .before .before .before .before .before .before .before in
+    let w = c .before .before .before in
+    let h = w .before .before in
+    let n = h .before .before in
+    let t = n .before .before in
+    let g = t .before .before in
     let d = g .before in
     let l = d .before .before .before .before .before .before .before .before .before .before in
     let i = l .before .before .before .loop .inv in
     let k = l .before .before .before .before .before .before .before .before .before .before in
     let b = bytes-of (k .before .before .before .before .before .before .before .before .args .bytes .now) (k .shared-slice-known8 .given) in
     onward i (sym (l .before .before .over .ensures) ∙ l .before .if1 .left) (l .if2 .left) _ (stepped-as _ _ _ _ (i .ready) _ (d .step .ensures)) b (c .if3 .left)
-    (g .register .given) (c .before .before .before .before .before .before .before .before .before .tape .given) (c .before .before .before .before .before .before .before .table .given) (c .before .before .before .before .before .channel .given) (c .before .before .before .output .given)
+    (g .register .given) (t .tape .given) (n .table .given) (h .channel .given) (w .output .given)
 
 pub go-spec : {M : Type 1} → statement M
 go-spec =

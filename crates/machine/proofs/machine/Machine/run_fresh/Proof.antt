@@ -14,7 +14,8 @@ use Rattle.machine.proofs.machine.Machine.run_fresh.Tie as tie
 returns-2 : tie.Need-returns-2
 returns-2 c =
     let l = c .before .before .before .before .before in
-    fresh-cramped _ _ _ (l .before .load .ensures .0) (l .if1 .left) _ (l .before .before .before .before .before .before .fresh .ensures) _ _ (c .before .has-room .ensures) (c .if2 .taken) _
+    let f = l .before .before .before .before .before .before in
+    fresh-cramped _ _ _ (l .before .load .ensures .0) (l .if1 .left) _ (f .fresh .ensures) _ _ (c .before .has-room .ensures) (c .if2 .taken) _
 
 run-loaded-requires : tie.Need-run-loaded-requires
 run-loaded-requires c κs = let l = c .before .before .before .before .before .before .before .before .before .before .before .before .before .before .before .before .before .before .before .before .before .before in is-loaded _ _ _ _ _ _ _ _ _ _ (l .before .load .ensures) (l .if1 .left)
@@ -30,6 +31,18 @@ returns-3 c =
     let d = slices (a .register .now) (a .tape .now) (a .table .now) (a .channel .now) (a .output .now) in
     c .before .before .before .before .before .before .before .before .before .before .run-loaded .ensures
     ∙ fresh-called _ _ _ (l .before .load .ensures .0) (l .if1 .left) _ (f .fresh .ensures) d _ (r .before .has-room .ensures) (r .if2 .left) _ _ (g .before .zero .ensures) (t .before .zero2 .ensures) (g .register .given) _
+
+register-long : tie.Need-same-length-4
+register-long c =
+    let r = c .before .before .before .before .before .before .before .before .before in
+    let z = r .before .before .before .before .before .before .before .before .before .before .before .before .before .before .before .before in
+    omega (arith, r .register2 .given, z .register .given)
+
+tape-long : tie.Need-same-length-5
+tape-long c =
+    let r = c .before .before .before .before .before .before .before in
+    let z = r .before .before .before .before .before .before .before .before .before .before .before .before .before .before in
+    omega (arith, r .tape2 .given, z .tape .given)
 
 pub run-fresh-spec : {M : Type 1} → statement M
 run-fresh-spec =
@@ -54,8 +67,8 @@ run-fresh-spec =
     (λ c. let l = c .before .before .before .before .before .before .before .before .before .before .before .before .before .before .before .before .before .load .ensures in part-fits _ _ (l .0) payloadIn _ _ (l .1 .1 .1 .1))
     (λ c. let l = c .before .before .before .before .before .before .before .before .before .before .before .before .before .before .before .before .before .before .load .ensures in part-length _ _ (l .0) payloadIn _ _ (l .1 .1 .1 .1))
     run-loaded-requires
-    (λ c. omega (arith, c .before .before .before .before .before .before .before .before .before .register2 .given, c .before .before .before .before .before .before .before .before .before .before .before .before .before .before .before .before .before .before .before .before .before .before .before .before .before .register .given))
-    (λ c. omega (arith, c .before .before .before .before .before .before .before .tape2 .given, c .before .before .before .before .before .before .before .before .before .before .before .before .before .before .before .before .before .before .before .before .before .tape .given))
+    register-long
+    tape-long
     (λ c. search needs)
     (λ c. search needs)
     (λ c. search needs)

@@ -12,6 +12,12 @@ find-partners-requires c κs =
     let h = c .before .before .before .before .before .before .before .before .before .before .before .before .before .before .pre in
     (rows-few _ _ _ _ _ h, search needs, search needs, search needs, marks-few _ _ _ _ _ h)
 
+run-read-requires : tie.Need-run-read-requires
+run-read-requires c κs =
+    let p = c .before .before .before .before .before .before .before .before .before in
+    let a = p .before .before .before .before .before .before .before .before .before .before .before .before .before .before .before in
+    is-read _ _ _ _ _ (a .pre) _ _ _ _ _ _ _ (p .find-partners .ensures) refl
+
 pub run-loaded-spec : {M : Type 1} → statement M
 run-loaded-spec =
     tie.close
@@ -25,7 +31,7 @@ run-loaded-spec =
     (λ c. search needs)
     (λ c. search needs)
     (λ c. let p = c .before .before .before .find-partners .ensures .1 .1 in omega (arith, end-long _ _ _ _ (p .0) (p .1)))
-    (λ c κs. is-read _ _ _ _ _ (c .before .before .before .before .before .before .before .before .before .before .before .before .before .before .before .before .before .before .before .before .before .before .before .before .pre) _ _ _ _ _ _ _ (c .before .before .before .before .before .before .before .before .before .find-partners .ensures) refl)
+    run-read-requires
     (λ c. search needs)
     (λ c. search needs)
     (λ c. search needs)

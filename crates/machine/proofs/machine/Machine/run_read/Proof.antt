@@ -16,14 +16,18 @@ is-formed-requires c κs =
     (kc, kr, few-rows _ _ (d .pre))
 
 returns : tie.Need-returns
-returns c = run-unformed _ _ _ (c .before .before .before .before .before .before .before .before .before .before .before .before .before .before .before .before .before .before .before .before .before .before .before .before .before .before .pre) _ _ (c .before .is-formed .ensures) (c .if1 .taken) _
+returns c =
+    let f = c .before in
+    let a = f .before .before .before .before .before .before .before .before .before .before .before .before .before .before .before .before .before .before .before .before .before .before .before .before .before in
+    run-unformed _ _ _ (a .pre) _ _ (f .is-formed .ensures) (c .if1 .taken) _
 
 go-requires : tie.Need-go-requires
 go-requires c κs =
     let t = c .before .before .before .before .before .before .before in
     let f = t .before in
     let whole = is-formed-requires (f .before) (f .is-formed .lifetimes) in
-    run-going _ _ _ (f .before .before .before .before .before .before .before .before .before .before .before .before .before .before .before .before .before .before .before .before .before .before .before .before .before .pre) _ _ (f .is-formed .ensures) (t .if1 .left) (whole .0) (whole .1)
+    let a = f .before .before .before .before .before .before .before .before .before .before .before .before .before .before .before .before .before .before .before .before .before .before .before .before .before in
+    run-going _ _ _ (a .pre) _ _ (f .is-formed .ensures) (t .if1 .left) (whole .0) (whole .1)
 
 returns-2 : tie.Need-returns-2
 returns-2 c =
