@@ -19,7 +19,7 @@ use Rattle.partners.specs.Read.{patchRead}
 use Rattle.flattening.specs.declared.body.Body.{Body}
 use Rattle.flattening.specs.Flatten.{Flat, flatten}
 use Rattle.flattening.specs.Flatten.Flat.{loose, flat}
-use Rattle.flattening.specs.Flattened.{Outcome, tooShort, ofFlat, ofPatch, flattenOf}
+use Rattle.flattening.specs.Flattened.{Outcome, outcome, tooShort, ofFlat, ofPatch, flattenOf}
 use Rattle.flattening.specs.Handed.{Handed, handed, writtenIn, flattenPatchOf}
 use Rattle.flattening.specs.declared.handed.FlattenedPatch.{FlattenedPatch}
 
@@ -56,6 +56,13 @@ pub hands-on : (s o ns fs cs : List ℕ) (r : FlattenedPatch) (o′ ns′ fs′ 
     → r .patch ≡ patchRead (take (bytesOf (r .answer)) o′)
 unfolding flattenPatchOf
 hands-on s o ns fs cs r o′ ns′ fs′ cs′ e = ap (λ (h : Handed). h .patch) e ∙ ap (λ (h : Handed). patchRead (writtenIn (h .flattened))) (sym e)
+
+-- two answers that meet the contract of `flatten_patch` coincide, and so do all that they leave and the patches
+pub one-handed : (s o ns fs cs : List ℕ) (r q : FlattenedPatch) (o₁ ns₁ fs₁ cs₁ o₂ ns₂ fs₂ cs₂ : List ℕ)
+    → handed r o₁ ns₁ fs₁ cs₁ ≡ flattenPatchOf s o ns fs cs → handed q o₂ ns₂ fs₂ cs₂ ≡ flattenPatchOf s o ns fs cs
+    → (outcome (r .answer) o₁ ns₁ fs₁ cs₁ ≡ outcome (q .answer) o₂ ns₂ fs₂ cs₂) × (r .patch ≡ q .patch)
+one-handed s o ns fs cs r q o₁ ns₁ fs₁ cs₁ o₂ ns₂ fs₂ cs₂ e f =
+    let x = e ∙ sym f in (ap (λ (h : Handed). h .flattened) x, ap (λ (h : Handed). h .patch) x)
 
 pub record HandedOn (s o ns fs cs : List ℕ) : Type 0 where
   pub written : (os gs : List Op) (bs : List Body) → opsOf s ≡ ops os → flatten os ≡ flat gs bs → tooShort s o ns fs cs (marksIn os) ≡ false

@@ -46,6 +46,13 @@ pub hands-on : (s out : List ℕ) (r : JoinedPatch) (out′ : List ℕ) → hand
 unfolding joinPatchOf
 hands-on s out r out′ e = ap (λ (h : Handed). h .patch) e ∙ ap (λ (h : Handed). patchRead (writtenIn (h .joined))) (sym e)
 
+-- two answers that meet the contract of `join_patch` coincide, and so do the bytes and the patches
+pub one-handed : (s out : List ℕ) (r q : JoinedPatch) (o p : List ℕ) → handed r o ≡ joinPatchOf s out → handed q p ≡ joinPatchOf s out
+    → (r .answer ≡ q .answer) × ((o ≡ p) × (r .patch ≡ q .patch))
+one-handed s out r q o p e f =
+    let x = e ∙ sym f in
+    (ap (λ (h : Handed). h .joined .answer) x, (ap (λ (h : Handed). h .joined .bytes) x, ap (λ (h : Handed). h .patch) x))
+
 nothing : (a : Joined) → (numberOf a ≡ 0 → ⊥) → lengthOf a ≡ 0
 nothing (BadFile n p) z = refl
 nothing NoRoom z = refl

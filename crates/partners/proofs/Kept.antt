@@ -230,8 +230,8 @@ module _ (ks : List ℕ) (few : length ks ≤ mostOps) where
       turns = turn-left t;
     }
 
-    top-end : (m : Bracket) → getD (p .ends) (p .top) 0 ≡ place (toEnd (suc i) 0 (drop (suc i) ms))
-    top-end m = let z : p .top - 0 ≡ p .top = omega arith in ap (λ (x : ℕ). getD (p .ends) x 0) (sym z) ∙ h .ends .at 0 (omega arith)
+    top-end : getD (p .ends) (p .top) 0 ≡ place (toEnd (suc i) 0 (drop (suc i) ms))
+    top-end = let z : p .top - 0 ≡ p .top = omega arith in ap (λ (x : ℕ). getD (p .ends) x 0) (sym z) ∙ h .ends .at 0 (omega arith)
 
     pub top-else : getD (p .elses) (p .top) 0 ≡ place (toMid (suc i) 0 (drop (suc i) ms))
     top-else = let z : p .top - 0 ≡ p .top = omega arith in ap (λ (x : ℕ). getD (p .elses) x 0) (sym z) ∙ h .elses .at 0 (omega arith)
@@ -247,7 +247,7 @@ module _ (ks : List ℕ) (few : length ks ≤ mostOps) where
       lowest = low-as mid e (p .top) (h .lowest);
       ends = framed-as toEnd mid e _ _ (framed-past toEnd end-counts i (drop (suc i) ms) (p .top) (p .ends) (h .ends) refl);
       elses = framed-as toMid mid e _ _ (framed-mid toMid mid-counts i (drop (suc i) ms) (p .top) (p .elses) (h .elses) (omega (arith, h .elses-room, h .high)) i refl);
-      partners = partner-kept (getD (p .ends) (p .top) 0) (top-end mid ∙ sym (far-mid ms (suc i) i (marked mid e))) (not-held mid e (λ q. clash (cc)));
+      partners = partner-kept (getD (p .ends) (p .top) 0) (top-end ∙ sym (far-mid ms (suc i) i (marked mid e))) (not-held mid e (λ q. clash (cc)));
       turns = turn-left t;
     }
 
@@ -295,7 +295,7 @@ module _ (ks : List ℕ) (few : length ks ≤ mostOps) where
       lowest = let q : suc (p .top - 1) ≡ p .top = omega (arith, w) in low-as up e (p .top - 1) (end-counts .opens i (p .top - 1) (drop (suc i) ms) ∙ ap (λ (x : ℕ). toEnd (suc i) x (drop (suc i) ms)) q ∙ h .lowest);
       ends = framed-as toEnd up e _ _ (framed-up toEnd end-counts i (drop (suc i) ms) (p .top) (p .ends) (h .ends) w);
       elses = framed-as toMid up e _ _ (framed-up toMid mid-counts i (drop (suc i) ms) (p .top) (p .elses) (h .elses) w);
-      partners = pair-kept e _ refl (getD (p .ends) (p .top) 0) (top-end up);
+      partners = pair-kept e _ refl (getD (p .ends) (p .top) 0) top-end;
       turns = t;
     }
 
@@ -310,7 +310,7 @@ module _ (ks : List ℕ) (few : length ks ≤ mostOps) where
           ends-room = h .ends-room;
           elses-room = length-set (p .elses) 0 nowhere ∙ h .elses-room;
           lowest = low-as up e (p .top) (end-counts .opens i (p .top) (drop (suc i) ms) ∙ h .ends .beyond (suc (p .top)) (omega arith));
-          ends = framed-as toEnd up e _ _ (framed-low toEnd end-counts i (drop (suc i) ms) (p .top) (p .ends) (h .ends) (p .ends) z (ap (λ (x : ℕ). getD (p .ends) x 0) (sym z) ∙ top-end up ∙ ap place none-here));
+          ends = framed-as toEnd up e _ _ (framed-low toEnd end-counts i (drop (suc i) ms) (p .top) (p .ends) (h .ends) (p .ends) z (ap (λ (x : ℕ). getD (p .ends) x 0) (sym z) ∙ top-end ∙ ap place none-here));
           elses = framed-as toMid up e _ _ (framed-low toMid mid-counts i (drop (suc i) ms) (p .top) (p .elses) (h .elses) (set (p .elses) 0 nowhere) z (getD-set-same (p .elses) 0 nowhere 0 (omega (arith, h .elses-room))));
           partners = partner-left (sym (far-up ms (suc i) i (marked up e) ∙ ap place none-here))
               (λ j b d o. let q : none ≡ some j = sym none-here ∙ ends-there ms i j (omega (arith, many)) d o in clash (cc));
