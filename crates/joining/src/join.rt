@@ -2,6 +2,7 @@
 ghost use mathlib.Core.Path.{_≡_};
 ghost use Prim.Native.Nat.{ℕ, _≤_};
 ghost use lib.ListN.{length};
+ghost use Rattle.basics.specs.Limits.{mostOps};
 ghost use Rattle.joining.specs.Stack.{Holds, stack, after};
 ghost use Rattle.joining.specs.Joined.{outcome, joinOf};
 use crate::stack::count_of;
@@ -17,24 +18,26 @@ use patch_reader::reader::load;
 // Each of the file's ops pushed in turn; how many entries are left.
 fn push_all(
     bytes: &[u8],
-    rows: &[u8],
-    counts: &[u16],
+    rows: &[u8; Read::OPS],
+    counts: &[u16; Read::OPS],
     payloads: &[u32],
     count: usize,
-    ops: &mut [usize],
-    values: &mut [u64],
+    ops: &mut [u16; Read::OPS],
+    values: &mut [u64; Read::OPS],
 ) -> usize
-    requires { ⌜ Holds (now bytes) (now rows) (now counts) (now payloads) count × ((count ≤ length (now ops)) × (count ≤ length (now values))) ⌝ }
+    requires { ⌜ Holds (now bytes) (now rows) (now counts) (now payloads) count × ((count ≤ mostOps) × ((length (now rows) ≡ mostOps) × ((length (now counts) ≡ mostOps) × ((length (now ops) ≡ mostOps) × (length (now values) ≡ mostOps))))) ⌝ }
     ensures { λ r. ⌜ (r ≤ count) × (stack (now (ops .exit)) (now (values .exit)) r ≡ after (now (bytes .entry)) (now (rows .entry)) (now (counts .entry)) count) ⌝ }
+    ensures { λ _. ⌜ (length (now (ops .exit)) ≡ mostOps) × (length (now (values .exit)) ≡ mostOps) ⌝ }
 {
     let mut n = 0;
     let mut i = 0;
     while i < count {
-        let k = row_of(rows, i);
-        let c = count_of(counts, i);
-        let p = payload_of(payloads, i);
+        let op = i as u16;
+        let k = row_of(rows, op);
+        let c = count_of(counts, op);
+        let p = payload_of(payloads, op);
         let v = value_of(bytes, k, c, p);
-        n = push(rows, counts, ops, values, n, i, v);
+        n = push(rows, counts, ops, values, n, op, v);
         i += 1;
     }
     n
@@ -58,7 +61,7 @@ pub fn join(bytes: &[u8], out: &mut [u8]) -> Joined
         return Joined::NoRoom;
     }
     let count = read.ops;
-    let mut ops = [0usize; Read::OPS];
+    let mut ops = [0u16; Read::OPS];
     let mut values = [0u64; Read::OPS];
     let n = push_all(
         bytes,

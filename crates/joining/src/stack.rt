@@ -1,9 +1,10 @@
 // The push of an op on the ops before it. An entry of the stack is an op of the file, by its place among them, and the value that it has by now
-// if it is a Move or a Set of one value: two lent slices hold them, the last one on top.
+// if it is a Move or a Set of one value: two lent arrays hold them, the last one on top.
 ghost use mathlib.Core.Path.{_≡_};
 ghost use mathlib.Core.List.{_∷_};
 ghost use Prim.Native.Nat.{ℕ, _+_, _<_, _≤_};
 ghost use lib.ListN.{length, getD};
+ghost use Rattle.basics.specs.Limits.{mostOps};
 ghost use Rattle.lanes.specs.Int.{intAdd};
 ghost use Rattle.joining.specs.Stack.{cells, tests, meet, entry, stack, movedOn, pushOn};
 use kind_table::row;
@@ -11,6 +12,7 @@ use lanes::lane::CellOp;
 use lanes::lane::LaneOp;
 use lanes::lane::cell_rule;
 use lanes::lane::lane_rule;
+use patch_reader::reader::Read;
 
 // What the last op and the new one make of each other: the new one is pushed, or left out; the last one is taken off, and the new one
 // is pushed again, a set of this value is, or the last one is after the new one; or a move by this value stands for both.
@@ -121,27 +123,36 @@ pub fn meets(yk: u8, yn: u16, yv: u64, xk: u8, xn: u16, xv: u64) -> Met
 }
 
 // The row of op i, and its count; 0 beyond the last.
-pub fn row_of(rows: &[u8], i: usize) -> u8
+pub fn row_of(rows: &[u8], i: u16) -> u8
     ensures { λ r. ⌜ r ≡ getD (now (rows .entry)) i 0 ⌝ }
 {
-    if rows.len() <= i {
+    let at = i as usize;
+    if rows.len() <= at {
         return 0;
     }
-    rows[i]
+    rows[at]
 }
 
-pub fn count_of(counts: &[u16], i: usize) -> u16
+pub fn count_of(counts: &[u16], i: u16) -> u16
     ensures { λ r. ⌜ r ≡ getD (now (counts .entry)) i 0 ⌝ }
 {
-    if counts.len() <= i {
+    let at = i as usize;
+    if counts.len() <= at {
         return 0;
     }
-    counts[i]
+    counts[at]
 }
 
-pub fn put(ops: &mut [usize], values: &mut [u64], n: usize, i: usize, v: u64) -> usize
-    requires { ⌜ (n < length (now ops)) × (n < length (now values)) ⌝ }
+pub fn put(
+    ops: &mut [u16; Read::OPS],
+    values: &mut [u64; Read::OPS],
+    n: usize,
+    i: u16,
+    v: u64,
+) -> usize
+    requires { ⌜ (n < mostOps) × ((length (now ops) ≡ mostOps) × (length (now values) ≡ mostOps)) ⌝ }
     ensures { λ r. ⌜ (r ≡ n + 1) × (stack (now (ops .exit)) (now (values .exit)) r ≡ entry i v ∷ stack (now (ops .entry)) (now (values .entry)) n) ⌝ }
+    ensures { λ _. ⌜ (length (now (ops .exit)) ≡ mostOps) × (length (now (values .exit)) ≡ mostOps) ⌝ }
 {
     ops[n] = i;
     values[n] = v;
@@ -150,15 +161,16 @@ pub fn put(ops: &mut [usize], values: &mut [u64], n: usize, i: usize, v: u64) ->
 
 // The push of a move.
 pub fn put_move(
-    rows: &[u8],
-    ops: &mut [usize],
-    values: &mut [u64],
+    rows: &[u8; Read::OPS],
+    ops: &mut [u16; Read::OPS],
+    values: &mut [u64; Read::OPS],
     n: usize,
-    i: usize,
+    i: u16,
     v: u64,
 ) -> usize
-    requires { ⌜ (n < length (now ops)) × (n < length (now values)) ⌝ }
+    requires { ⌜ (n < mostOps) × ((length (now rows) ≡ mostOps) × ((length (now ops) ≡ mostOps) × (length (now values) ≡ mostOps))) ⌝ }
     ensures { λ r. ⌜ (r ≤ n + 1) × (stack (now (ops .exit)) (now (values .exit)) r ≡ movedOn (now (rows .entry)) (stack (now (ops .entry)) (now (values .entry)) n) (entry i v)) ⌝ }
+    ensures { λ _. ⌜ (length (now (ops .exit)) ≡ mostOps) × (length (now (values .exit)) ≡ mostOps) ⌝ }
 {
     if n == 0 {
         return put(ops, values, n, i, v);
@@ -178,16 +190,17 @@ pub fn put_move(
 
 // The push of op i with the value v on the n entries; how many there are then.
 pub fn push(
-    rows: &[u8],
-    counts: &[u16],
-    ops: &mut [usize],
-    values: &mut [u64],
+    rows: &[u8; Read::OPS],
+    counts: &[u16; Read::OPS],
+    ops: &mut [u16; Read::OPS],
+    values: &mut [u64; Read::OPS],
     n: usize,
-    i: usize,
+    i: u16,
     v: u64,
 ) -> usize
-    requires { ⌜ (n < length (now ops)) × (n < length (now values)) ⌝ }
+    requires { ⌜ (n < mostOps) × ((length (now rows) ≡ mostOps) × ((length (now counts) ≡ mostOps) × ((length (now ops) ≡ mostOps) × (length (now values) ≡ mostOps)))) ⌝ }
     ensures { λ r. ⌜ (r ≤ n + 1) × (stack (now (ops .exit)) (now (values .exit)) r ≡ pushOn (now (rows .entry)) (now (counts .entry)) (stack (now (ops .entry)) (now (values .entry)) n) (entry i v)) ⌝ }
+    ensures { λ _. ⌜ (length (now (ops .exit)) ≡ mostOps) × (length (now (values .exit)) ≡ mostOps) ⌝ }
 {
     if n == 0 {
         return put(ops, values, n, i, v);

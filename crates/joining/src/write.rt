@@ -17,13 +17,14 @@ use byte_fields::write::put_u32;
 use kind_table::row;
 
 // The first byte of op i's payload; 0 beyond the last.
-pub fn payload_of(payloads: &[u32], i: usize) -> usize
+pub fn payload_of(payloads: &[u32], i: u16) -> usize
     ensures { λ r. ⌜ r ≡ getD (now (payloads .entry)) i 0 ⌝ }
 {
-    if payloads.len() <= i {
+    let at = i as usize;
+    if payloads.len() <= at {
         return 0;
     }
-    wide_int(payloads[i])
+    wide_int(payloads[at])
 }
 
 // Whether an op of row k that counts n has a value of its own: a Move, or a Set of one value.
@@ -66,7 +67,7 @@ pub fn write_op(
     counts: &[u16],
     payloads: &[u32],
     count: usize,
-    i: usize,
+    i: u16,
     v: u64,
     out: &mut [u8],
     at: usize,
@@ -94,7 +95,7 @@ pub fn write_all(
     counts: &[u16],
     payloads: &[u32],
     count: usize,
-    ops: &[usize],
+    ops: &[u16],
     values: &[u64],
     n: usize,
     out: &mut [u8],

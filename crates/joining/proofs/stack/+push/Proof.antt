@@ -36,28 +36,24 @@ met : (t : ℕ) (c : push-lts.After-meets (claims t) (push-at t) push.Post) {m :
 met t c e =
     let j = c .before in
     let k = j .before .before in
-    let l = k .before in
-    record { some = l .before .before .before .if1 .left; told = cc (e, c .meets .ensures, j .count-of2 .ensures, j .before .row-of2 .ensures, k .count-of .ensures, l .row-of .ensures) }
+    let l = k .before .before in
+    let r = l .before .before in
+    record { some = r .before .before .before .before .if1 .left; told = cc (e, c .meets .ensures, j .count-of2 .ensures, k .row-of2 .ensures, l .count-of .ensures, r .row-of .ensures) }
 
 pub +push-spec : {M : Type 1} → statement M
 +push-spec = close μ-push λ t. push-lts.spec (claims t) (push-at t) push.Post
-    (λ c κs. search needs) (λ c. search needs) (λ c. search needs)
-    (λ c. (omega (arith, c .before .before .before .before .put), c .before .before .before .before .put .ensures .1 ∙ simp (c .before .before .before .before .before .before .before .if1 .taken)))
+    (λ c κs. search needs)
+    (λ c. ((omega (arith, c .put), c .put .ensures .0 .1 ∙ simp (c .before .before .before .if1 .taken)), c .put .ensures .1))
     (λ c. search needs) (λ c. search needs) (λ c. search needs) (λ c. search needs) (λ c. search needs) (λ c κs. search needs) (λ c κs. search needs) (λ c κs. search needs) (λ c κs. search needs)
     (λ c κs. search needs) (λ c. search needs) (λ c κs. search needs) (λ c. search needs) (λ c. search needs) (λ c. search needs) (λ c κs. search needs) (λ c. search needs)
-    (λ c κs. search needs) (λ c. search needs) (λ c κs. search needs) (λ c κs. search needs) (λ c. search needs) (λ c κs. search needs) (λ c. search needs) (λ c. search needs)
-    (λ c. let p = c .before .before .before .before in let m = p .before .before .before in (omega (arith, p .put2), push-new (met t (m .before .before) (m .enum-told .given .1)) (p .put2 .ensures .1)))
-    (λ c. (omega arith, push-skip (met t (c .before .before) (c .enum-told2 .given .1)) refl))
-    (λ c. (omega arith, push-arm (met t (c .before .before) (c .enum-told3 .given .1)) refl))
-    (λ c. search needs) (λ c. search needs)
-    (λ c. let p = c .before .before .before .before in let m = p .before .before .before in (omega (arith, p .push), push-arm (met t (m .before .before) (m .enum-told4 .given .1)) (p .push .ensures .1)))
-    (λ c. search needs) (λ c. search needs)
-    (λ c. let p = c .before .before .before .before in let m = p .before .before .before .before in (omega (arith, p .push2), push-arm (met t (m .before .before) (m .w .given .1)) (p .push2 .ensures .1)))
-    (λ c. search needs) (λ c. search needs)
+    (λ c κs. search needs) (λ c. search needs) (λ c κs. search needs) (λ c κs. search needs) (λ c. search needs) (λ c κs. search needs)
+    (λ c. let m = c .before .before .before in ((omega (arith, c .put2), push-new (met t (m .before .before) (m .enum-told .given .1)) (c .put2 .ensures .0 .1)), c .put2 .ensures .1))
+    (λ c. ((omega arith, push-skip (met t (c .before .before) (c .enum-told2 .given .1)) refl), search needs))
+    (λ c. ((omega arith, push-arm (met t (c .before .before) (c .enum-told3 .given .1)) refl), search needs))
+    (λ c. let m = c .before .before .before in ((omega (arith, c .push), push-arm (met t (m .before .before) (m .enum-told4 .given .1)) (c .push .ensures .0 .1)), c .push .ensures .1))
+    (λ c. let m = c .before .before .before .before in ((omega (arith, c .push2), push-arm (met t (m .before .before) (m .w .given .1)) (c .push2 .ensures .0 .1)), c .push2 .ensures .1))
     (λ c.
-    let p = c .before .before .before .before in
-    let q = p .before .before .before .before .before .before .before in
+    let q = c .before .before .before in
     let g = met t (q .before .before .before .before .before) (q .before .before .before .enum-told5 .given .1) in
-    (omega (arith, p .put-move, q .push3, g .some), push-under g (q .push3 .ensures .1) (p .put-move .ensures .1)))
-    (λ c. search needs) (λ c. search needs)
-    (λ c. let p = c .before .before .before .before in let m = p .before .before .before .before in (omega (arith, p .put3), push-arm (met t (m .before .before) (m .w2 .given .1)) (p .put3 .ensures .1)))
+    ((omega (arith, c .put-move, q .push3, g .some), push-under g (q .push3 .ensures .0 .1) (c .put-move .ensures .0 .1)), c .put-move .ensures .1))
+    (λ c. let m = c .before .before .before .before in ((omega (arith, c .put3), push-arm (met t (m .before .before) (m .w2 .given .1)) (c .put3 .ensures .0 .1)), c .put3 .ensures .1))
