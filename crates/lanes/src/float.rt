@@ -3,7 +3,7 @@
 ghost use mathlib.Core.Path.{_≡_};
 ghost use mathlib.Core.Bool.{_||_};
 ghost use lib.Ieee.{binary64, nanBits};
-ghost use Rattle.lanes.specs.Float.{loadedOf, storedOf, floatAdd, floatSub, floatMul, floatDiv, floatRem, floatNeg, floatGez, toInt, toFloat};
+ghost use Rattle.lanes.specs.Float.{storedOf, floatAdd, floatSub, floatMul, floatDiv, floatRem, floatNeg, floatGez, toInt, toFloat};
 use crate::int::HALF;
 use crate::int::bit_or;
 use crate::int::magnitude;
@@ -27,17 +27,6 @@ fn either_nan(a: u64, b: u64) -> bool
     ensures { λ r. ⌜ r ≡ (nanBits binary64 a || nanBits binary64 b) ⌝ }
 {
     bit_or(a % HALF + LIFT, b % HALF + LIFT) >= HALF
-}
-
-// The float of a pattern.
-pub fn as_float(a: u64) -> f64
-    ensures { λ r. ⌜ r ≡ loadedOf a ⌝ }
-{
-    if nan_bits(a) {
-        0.0 / 0.0
-    } else {
-        f64::from_bits(a)
-    }
 }
 
 // The pattern of a float.
@@ -110,10 +99,17 @@ pub fn float_div(a: u64, b: u64) -> u64
     as_int(f64::from_bits(a) / f64::from_bits(b))
 }
 
+// A float below the divisor in size, as every finite one is below infinity, is its own remainder, and no call is made for it.
 pub fn float_rem(a: u64, b: u64) -> u64
     ensures { λ r. ⌜ r ≡ floatRem a b ⌝ }
 {
-    if either_nan(a, b) {
+    if a % HALF < b % HALF {
+        if nan_bits(b) {
+            return NAN;
+        }
+        return a;
+    }
+    if nan_bits(a) {
         return NAN;
     }
     as_int(f64::from_bits(a) % f64::from_bits(b))
@@ -126,9 +122,15 @@ pub fn float_neg(a: u64) -> u64
     std::num::wrapping_add_u64(a, HALF)
 }
 
-// 1 where the float is at least 0, as -0.0 is, and 0 where it is not or is a NaN.
+// 1 where the float is at least 0, as -0.0 is, and 0 where it is not or is a NaN. No float is compared: taken from the first number a pattern up to
+// infinity's leaves HALF or more, and a NaN's leaves less; taken from 2^64, of the patterns with the sign -0.0's alone leaves as much.
 pub fn float_gez(a: u64) -> u64
     ensures { λ r. ⌜ r ≡ floatGez a ⌝ }
 {
-    if as_float(a) >= 0.0 { 1 } else { 0 }
+    let rest = if a < HALF {
+        0xFFF0_0000_0000_0000 - a
+    } else {
+        0xFFFF_FFFF_FFFF_FFFF - a + 1
+    };
+    rest / HALF
 }
