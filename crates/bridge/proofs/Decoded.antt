@@ -150,6 +150,7 @@ module _ (s : List ℕ) (i : ℕ) (h : i < length (codeOf s .rows)) where
   unfolding lengthOk kindAt
   payload-in =
       record {
+        known = rw (kind-is s i) (whole .small);
         few = few;
         ints = values-in row.set refl;
         floats = values-in row.standardSet refl;

@@ -6,11 +6,10 @@ use lib.Dec.{leb, ltb, eqb}
 use Rattle.basics.specs.Limits.{depth}
 use Rattle.basics.specs.Pick.{pick}
 use Rattle.kind_table.specs.Rows as row
-use Rattle.machine_numbers.specs.Numbers.{atPosition, ofDepth, ofFunctions, halt, next, answered, OneList, oneList, Steered, steered}
+use Rattle.machine_numbers.specs.Numbers.{atPosition, ofDepth, ofFunctions, halt, next, answered, OneList, oneList, Steered, steered, OpAnswer}
 use Rattle.partners.specs.Columns.{endOf, elseOf, openOf, markOf}
 use Rattle.searches.specs.Found.{enteredIn, countedIn}
 use Rattle.machine_numbers.specs.declared.numbers.Numbers.{Numbers}
-use Rattle.machine_numbers.specs.declared.numbers.OpAnswer.{OpAnswer}
 
 -- after the op at e, or 20 where e is no place
 unfoldable pub jumpOf : List ℕ → Numbers → ℕ → OpAnswer

@@ -1,165 +1,174 @@
-// The ops that steer: Function, Call, Return, While, If, Else, End.
+// The ops that steer: Function, Call, Return, While, If, Else, End. Each stands at the place `at` and is lent the position, which it sets where it
+// jumps; a stored place is read only then. A contract is over any numbers p of a machine, with those that are lent among them.
 ghost use mathlib.Core.Path.{_≡_};
 ghost use Prim.Native.Nat.{_+_, _≤_, _<_};
-ghost use lib.ListN.{length, getD, take};
-ghost use Rattle.basics.specs.Limits.{mostOps, lanes, depth};
-ghost use Rattle.machine_numbers.specs.Numbers.{oneList, steered};
-ghost use Rattle.partners.specs.Columns.{Places, functionsOf, endOf, elseOf, openOf};
-ghost use Rattle.control_ops.specs.CanSteer.{CanSteer};
-ghost use Rattle.control_ops.specs.Control.{jumpOf, functionOf, callOf, retOf, whileOf, ifOf, elsesOf, endsOf, controlOf};
+ghost use lib.ListN.{length, take};
+ghost use Rattle.basics.specs.Limits as limit;
+ghost use Rattle.kind_table.specs.Rows as kind;
 ghost use Rattle.machine_model.specs.Formed.{Rising};
+ghost use Rattle.machine_numbers.specs.declared.numbers.Numbers.{Numbers};
+ghost use Rattle.machine_numbers.specs.Numbers.{atPosition, ofDepth, ofFunctions, left, oneList, steered};
+ghost use Rattle.partners.specs.Columns.{turnsOf};
+ghost use Rattle.control_ops.specs.CanSteer.{Steers, CanCall};
+ghost use Rattle.control_ops.specs.Control.{jumpOf, functionOf, callOf, retOf, whileOf, ifOf, elsesOf, endsOf};
 use basics::wide::wide_short;
 use kind_table::row;
+use machine_numbers::numbers::DONE;
+use machine_numbers::numbers::HALTED;
+use machine_numbers::numbers::JUMPED;
 use machine_numbers::numbers::Numbers;
-use machine_numbers::numbers::OpAnswer;
 use machine_numbers::numbers::SIGN;
 use partners::scan;
 use searches::table;
 
 // After the op at e; 20 where there is none.
-fn jump(h: Numbers, rows: &[u8], e: usize) -> OpAnswer
-    requires { ⌜ length (now rows) ≤ mostOps ⌝ }
-    ensures { λ r. ⌜ r ≡ jumpOf (now (rows .entry)) h e ⌝ }
+fn jump(at: usize, position: &mut usize, rows: &[u8], e: usize) -> u32
+    requires { ⌜ length (now rows) ≤ limit.mostOps ⌝ }
+    ensures { λ r. ⌜ ((p : Numbers) → left r at (atPosition p (now (position .exit))) ≡ jumpOf (now (rows .entry)) (atPosition p at) e) ⌝ }
 {
     if rows.len() <= e {
-        return h.refuse(20);
+        return 20;
     }
-    h.goto(e + 1)
+    *position = e + 1;
+    JUMPED
 }
 
-fn function(mut h: Numbers, rows: &[u8], end: usize, table: &mut [u16]) -> OpAnswer
-    requires { ⌜ (end ≡ endOf (now rows) (h .position + 1)) × (h .position < length (now rows)) × (length (now rows) ≤ mostOps) × (h .functions ≤ length (now table)) × Rising (take (h .functions) (now table)) ⌝ }
-    ensures { λ r. ⌜ oneList r (now (table .exit)) ≡ functionOf (now (rows .entry)) h (now (table .entry)) ⌝ }
+pub fn function(
+    at: usize,
+    position: &mut usize,
+    functions: &mut usize,
+    rows: &[u8],
+    partners: &[u16],
+    table: &mut [u16],
+) -> u32
+    requires { ⌜ Steers kind.function at (now rows) (now partners) × (now functions ≤ length (now table)) × Rising (take (now functions) (now table)) ⌝ }
+    ensures { λ r. ⌜ ((p : Numbers) → oneList (left r at (ofFunctions (atPosition p (now (position .exit))) (now (functions .exit)))) (now (table .exit)) ≡ functionOf (now (rows .entry)) (ofFunctions (atPosition p at) (now (functions .entry))) (now (table .entry))) ⌝ }
 {
-    let p = h.position;
-    let n = h.functions;
+    let end = wide_short(partners[at]);
+    let n = *functions;
     if rows.len() <= end {
-        return h.refuse(20);
+        return 20;
     }
-    h.functions = table::enter(table, n, p as u16);
-    h.goto(end + 1)
+    *functions = table::enter(table, n, at as u16);
+    *position = end + 1;
+    JUMPED
 }
 
-fn call(
-    mut h: Numbers,
+pub fn call(
+    at: usize,
+    position: &mut usize,
+    depth: &mut usize,
+    functions: &mut usize,
     rows: &[u8],
     marks: &[u16],
     calls: &mut [u16; Numbers::CALLS],
     register: &[u64],
     table: &mut [u16],
-) -> OpAnswer
-    requires { ⌜ CanSteer h (now rows) (now calls) (now register) (now table) × (now marks ≡ functionsOf (now rows)) ⌝ }
-    ensures { λ r. ⌜ steered r (now (calls .exit)) (now (table .exit)) ≡ callOf (now (rows .entry)) h (now (calls .entry)) (now (register .entry)) (now (table .entry)) ⌝ }
+) -> u32
+    requires { ⌜ CanCall at (now depth) (now functions) (now rows) (now marks) (now calls) (now register) (now table) ⌝ }
+    ensures { λ r. ⌜ ((p : Numbers) → steered (left r at (ofFunctions (ofDepth (atPosition p (now (position .exit))) (now (depth .exit))) (now (functions .exit)))) (now (calls .exit)) (now (table .exit)) ≡ callOf (now (rows .entry)) (ofFunctions (ofDepth (atPosition p at) (now (depth .entry))) (now (functions .entry))) (now (calls .entry)) (now (register .entry)) (now (table .entry))) ⌝ }
 {
-    let d = h.depth;
-    let p = h.position;
-    let n = h.functions;
+    let d = *depth;
+    let n = *functions;
     let k = register[0];
     if SIGN <= k {
-        return h.refuse(28);
+        return 28;
     }
     if Numbers::CALLS <= d {
-        return h.refuse(32);
+        return 32;
     }
     let j = k as usize;
     if j < n {
-        calls[d] = p as u16;
-        h.depth = d + 1;
+        calls[d] = at as u16;
+        *depth = d + 1;
         let to = wide_short(table[j]);
-        return h.goto(to + 1);
+        *position = to + 1;
+        return JUMPED;
     }
     let m = scan::nth_function(marks, k);
     if rows.len() <= m {
-        return h.refuse(29);
+        return 29;
     }
-    calls[d] = p as u16;
-    h.depth = d + 1;
-    h.functions = table::enter(table, n, m as u16);
-    h.goto(m + 1)
+    calls[d] = at as u16;
+    *depth = d + 1;
+    *functions = table::enter(table, n, m as u16);
+    *position = m + 1;
+    JUMPED
 }
 
-fn ret(mut h: Numbers, calls: &[u16; Numbers::CALLS]) -> OpAnswer
-    requires { ⌜ (h .position < mostOps) × (h .depth ≤ depth) × (length (now calls) ≡ depth) ⌝ }
-    ensures { λ r. ⌜ r ≡ retOf h (now (calls .entry)) ⌝ }
+pub fn ret(at: usize, position: &mut usize, depth: &mut usize, calls: &[u16; Numbers::CALLS]) -> u32
+    requires { ⌜ (now depth ≤ limit.depth) × (length (now calls) ≡ limit.depth) ⌝ }
+    ensures { λ r. ⌜ ((p : Numbers) → left r at (ofDepth (atPosition p (now (position .exit))) (now (depth .exit))) ≡ retOf (ofDepth (atPosition p at) (now (depth .entry))) (now (calls .entry))) ⌝ }
 {
-    let d = h.depth;
+    let d = *depth;
     if d == 0 {
-        h.halted = true;
-        return h.next();
+        return HALTED;
     }
     let e = d - 1;
     let p = wide_short(calls[e]);
-    h.depth = e;
-    h.goto(p + 1)
+    *depth = e;
+    *position = p + 1;
+    JUMPED
 }
 
-fn while_op(h: Numbers, rows: &[u8], end: usize, register: &[u64]) -> OpAnswer
-    requires { ⌜ (end ≡ endOf (now rows) (h .position + 1)) × (h .position < length (now rows)) × (length (now rows) ≤ mostOps) × (lanes ≤ length (now register)) ⌝ }
-    ensures { λ r. ⌜ r ≡ whileOf (now (rows .entry)) h (now (register .entry)) ⌝ }
+pub fn while_op(
+    at: usize,
+    position: &mut usize,
+    rows: &[u8],
+    partners: &[u16],
+    register: &[u64],
+) -> u32
+    requires { ⌜ Steers kind.while at (now rows) (now partners) × (limit.lanes ≤ length (now register)) ⌝ }
+    ensures { λ r. ⌜ ((p : Numbers) → left r at (atPosition p (now (position .exit))) ≡ whileOf (now (rows .entry)) (atPosition p at) (now (register .entry))) ⌝ }
 {
     if register[0] == 0 {
-        return jump(h, rows, end);
+        let e = wide_short(partners[at]);
+        return jump(at, position, rows, e);
     }
-    h.next()
+    DONE
 }
 
-fn if_op(h: Numbers, rows: &[u8], turn: usize, register: &[u64]) -> OpAnswer
-    requires { ⌜ (turn ≡ elseOf (now rows) (h .position + 1)) × (h .position < length (now rows)) × (length (now rows) ≤ mostOps) × (lanes ≤ length (now register)) ⌝ }
-    ensures { λ r. ⌜ r ≡ ifOf (now (rows .entry)) h (now (register .entry)) ⌝ }
+pub fn if_op(
+    at: usize,
+    position: &mut usize,
+    rows: &[u8],
+    partners: &[u16],
+    turns: &[u16],
+    register: &[u64],
+) -> u32
+    requires { ⌜ Steers kind.if at (now rows) (now partners) × (now turns ≡ turnsOf (now rows)) × (limit.lanes ≤ length (now register)) ⌝ }
+    ensures { λ r. ⌜ ((p : Numbers) → left r at (atPosition p (now (position .exit))) ≡ ifOf (now (rows .entry)) (atPosition p at) (now (register .entry))) ⌝ }
 {
     if register[0] == 0 {
-        return jump(h, rows, turn);
+        let e = wide_short(partners[at]);
+        let to = scan::first_of(turns[at], e);
+        return jump(at, position, rows, to);
     }
-    h.next()
+    DONE
 }
 
-fn else_op(h: Numbers, rows: &[u8], end: usize) -> OpAnswer
-    requires { ⌜ (end ≡ endOf (now rows) (h .position + 1)) × (h .position < length (now rows)) × (length (now rows) ≤ mostOps) ⌝ }
-    ensures { λ r. ⌜ r ≡ elsesOf (now (rows .entry)) h ⌝ }
+pub fn else_op(at: usize, position: &mut usize, rows: &[u8], partners: &[u16]) -> u32
+    requires { ⌜ Steers kind.else at (now rows) (now partners) ⌝ }
+    ensures { λ r. ⌜ ((p : Numbers) → left r at (atPosition p (now (position .exit))) ≡ elsesOf (now (rows .entry)) (atPosition p at)) ⌝ }
 {
-    jump(h, rows, end)
+    let e = wide_short(partners[at]);
+    jump(at, position, rows, e)
 }
 
-fn end(h: Numbers, rows: &[u8], opener: usize, register: &[u64]) -> OpAnswer
-    requires { ⌜ (opener ≡ openOf (now rows) (h .position)) × (h .position < length (now rows)) × (length (now rows) ≤ mostOps) × (lanes ≤ length (now register)) ⌝ }
-    ensures { λ r. ⌜ r ≡ endsOf (now (rows .entry)) h (now (register .entry)) ⌝ }
+pub fn end(at: usize, position: &mut usize, rows: &[u8], partners: &[u16], register: &[u64]) -> u32
+    requires { ⌜ Steers kind.end at (now rows) (now partners) × (limit.lanes ≤ length (now register)) ⌝ }
+    ensures { λ r. ⌜ ((p : Numbers) → left r at (atPosition p (now (position .exit))) ≡ endsOf (now (rows .entry)) (atPosition p at) (now (register .entry))) ⌝ }
 {
     if register[0] == 0 {
-        return h.next();
+        return DONE;
     }
+    let opener = wide_short(partners[at]);
     if rows.len() <= opener {
-        return h.next();
+        return DONE;
     }
     if rows[opener] == row::WHILE {
-        return h.goto(opener + 1);
+        *position = opener + 1;
+        return JUMPED;
     }
-    h.next()
-}
-
-// The op of row k, whose partner is stored as `with`. An If's Else is read off its column.
-pub fn control(
-    h: Numbers,
-    k: u8,
-    with: usize,
-    rows: &[u8],
-    turns: &[u16],
-    marks: &[u16],
-    calls: &mut [u16; Numbers::CALLS],
-    register: &[u64],
-    table: &mut [u16],
-) -> OpAnswer
-    requires { ⌜ CanSteer h (now rows) (now calls) (now register) (now table) × (k ≡ getD (now rows) (h .position) 0) × Places (now rows) (h .position) with (now turns) (now marks) ⌝ }
-    ensures { λ r. ⌜ steered r (now (calls .exit)) (now (table .exit)) ≡ controlOf k (now (rows .entry)) h (now (calls .entry)) (now (register .entry)) (now (table .entry)) ⌝ }
-{
-    let p = h.position;
-    match k {
-        row::FUNCTION => function(h, rows, with, table),
-        row::CALL => call(h, rows, marks, calls, register, table),
-        row::RETURN => ret(h, calls),
-        row::WHILE => while_op(h, rows, with, register),
-        row::IF => if_op(h, rows, scan::first_of(turns[p], with), register),
-        row::ELSE => else_op(h, rows, with),
-        row::END => end(h, rows, with, register),
-        _ => h.next(),
-    }
+    DONE
 }

@@ -20,9 +20,8 @@ use Rattle.testing_device.specs.declared.device.Peeked.{Peeked}
 use Rattle.testing_device.specs.declared.device.Peeked.the-variants as peeked
 use Rattle.testing_device.specs.declared.device.Poked.{Poked}
 use Rattle.testing_device.specs.declared.device.Poked.the-variants as poked
-use Rattle.machine_numbers.specs.Numbers.{ofRing, ofTaken, ofWritten, next, answered, OneList, oneList, Told, told}
+use Rattle.machine_numbers.specs.Numbers.{ofRing, ofTaken, ofWritten, next, answered, OneList, oneList, Told, told, OpAnswer}
 use Rattle.machine_numbers.specs.declared.numbers.Numbers.{Numbers}
-use Rattle.machine_numbers.specs.declared.numbers.OpAnswer.{OpAnswer}
 
 -- a value got goes to lane 0; 35 where the input is empty
 abbrev pub gotten : Numbers → List ℕ → Got → OneList

@@ -1,109 +1,78 @@
-// Get, Put, Peek and Poke.
+// Get, Put, Peek and Poke. Each is lent the numbers that it may change; its contract is over any numbers p of a machine, with these among them.
 ghost use mathlib.Core.Path.{_≡_};
-ghost use Prim.Native.Nat.{_+_, _≤_, _<_};
+ghost use Prim.Native.Nat.{_≤_};
 ghost use lib.ListN.{length};
-ghost use Rattle.basics.specs.Limits.{mostOps, lanes};
-ghost use Rattle.machine_numbers.specs.Numbers.{oneList, told};
-ghost use Rattle.device_ops.specs.Device.{gettingOf, puttingOf, peekingOf, pokingOf, deviceOf};
-ghost use Rattle.kind_table.specs.Rows as row;
-use kind_table::row;
-use machine_numbers::numbers::Numbers;
-use machine_numbers::numbers::OpAnswer;
+ghost use Rattle.basics.specs.Limits as limit;
+ghost use Rattle.machine_numbers.specs.declared.numbers.Numbers.{Numbers};
+ghost use Rattle.machine_numbers.specs.Numbers.{ofRing, ofTaken, ofWritten, onward, oneList};
+ghost use Rattle.device_ops.specs.Device.{gettingOf, puttingOf, peekingOf, pokingOf};
+use machine_numbers::numbers::DONE;
 use ops::op::Mode;
 use testing_device::device::Got;
 use testing_device::device::Peeked;
 use testing_device::device::Poked;
 use testing_device::device::Put;
 
-fn get(mut h: Numbers, mode: Mode, register: &mut [u64], input: &[u64]) -> OpAnswer
-    requires { ⌜ (h .position < mostOps) × (lanes ≤ length (now register)) ⌝ }
-    ensures { λ r. ⌜ oneList r (now (register .exit)) ≡ gettingOf mode h (now (register .entry)) (now (input .entry)) ⌝ }
+pub fn get(mode: Mode, taken: &mut usize, register: &mut [u64], input: &[u64]) -> u32
+    requires { ⌜ limit.lanes ≤ length (now register) ⌝ }
+    ensures { λ r. ⌜ ((p : Numbers) → oneList (onward r (ofTaken p (now (taken .exit)))) (now (register .exit)) ≡ gettingOf mode (ofTaken p (now (taken .entry))) (now (register .entry)) (now (input .entry))) ⌝ }
 {
-    let t = h.taken;
+    let t = *taken;
     match testing_device::input::get(mode, input, t) {
         Got::Value(v, at) => {
             register[0] = v;
-            h.taken = at;
-            h.next()
+            *taken = at;
+            DONE
         }
-        Got::Empty => h.refuse(35),
+        Got::Empty => 35,
     }
 }
 
-fn put(mut h: Numbers, mode: Mode, register: &[u64], output: &mut [u64]) -> OpAnswer
-    requires { ⌜ (h .position < mostOps) × (lanes ≤ length (now register)) ⌝ }
-    ensures { λ r. ⌜ oneList r (now (output .exit)) ≡ puttingOf mode h (now (register .entry)) (now (output .entry)) ⌝ }
+pub fn put(mode: Mode, written: &mut usize, register: &[u64], output: &mut [u64]) -> u32
+    requires { ⌜ limit.lanes ≤ length (now register) ⌝ }
+    ensures { λ r. ⌜ ((p : Numbers) → oneList (onward r (ofWritten p (now (written .exit)))) (now (output .exit)) ≡ puttingOf mode (ofWritten p (now (written .entry))) (now (register .entry)) (now (output .entry))) ⌝ }
 {
-    let w = h.written;
+    let w = *written;
     let v = register[0];
     match testing_device::output::put(mode, v, output, w) {
         Put::Written(n) => {
-            h.written = n;
-            h.next()
+            *written = n;
+            DONE
         }
-        Put::NoRoom => h.refuse(36),
+        Put::NoRoom => 36,
     }
 }
 
-fn peek(mut h: Numbers, register: &mut [u64], channel: &[u64]) -> OpAnswer
-    requires { ⌜ (h .position < mostOps) × (lanes ≤ length (now register)) ⌝ }
-    ensures { λ r. ⌜ oneList r (now (register .exit)) ≡ peekingOf h (now (register .entry)) (now (channel .entry)) ⌝ }
+pub fn peek(first: &mut usize, waiting: &mut usize, register: &mut [u64], channel: &[u64]) -> u32
+    requires { ⌜ limit.lanes ≤ length (now register) ⌝ }
+    ensures { λ r. ⌜ ((p : Numbers) → oneList (onward r (ofRing p (now (first .exit)) (now (waiting .exit)))) (now (register .exit)) ≡ peekingOf (ofRing p (now (first .entry)) (now (waiting .entry))) (now (register .entry)) (now (channel .entry))) ⌝ }
 {
-    let f = h.first;
-    let w = h.waiting;
+    let f = *first;
+    let w = *waiting;
     match testing_device::channel::peek(channel, f, w) {
-        Peeked::Value(v, first, waiting) => {
+        Peeked::Value(v, at, left) => {
             register[0] = v;
-            h.first = first;
-            h.waiting = waiting;
-            h.next()
+            *first = at;
+            *waiting = left;
+            DONE
         }
-        Peeked::Empty => h.refuse(33),
-        Peeked::NotARing => h.refuse(37),
+        Peeked::Empty => 33,
+        Peeked::NotARing => 37,
     }
 }
 
-fn poke(mut h: Numbers, register: &[u64], channel: &mut [u64]) -> OpAnswer
-    requires { ⌜ (h .position < mostOps) × (lanes ≤ length (now register)) ⌝ }
-    ensures { λ r. ⌜ oneList r (now (channel .exit)) ≡ pokingOf h (now (register .entry)) (now (channel .entry)) ⌝ }
+pub fn poke(first: usize, waiting: &mut usize, register: &[u64], channel: &mut [u64]) -> u32
+    requires { ⌜ limit.lanes ≤ length (now register) ⌝ }
+    ensures { λ r. ⌜ ((p : Numbers) → oneList (onward r (ofRing p first (now (waiting .exit)))) (now (channel .exit)) ≡ pokingOf (ofRing p first (now (waiting .entry))) (now (register .entry)) (now (channel .entry))) ⌝ }
 {
-    let f = h.first;
-    let w = h.waiting;
+    let w = *waiting;
     let v = register[0];
-    match testing_device::channel::poke(v, channel, f, w) {
-        Poked::Sent(waiting) => {
-            h.waiting = waiting;
-            h.next()
+    match testing_device::channel::poke(v, channel, first, w) {
+        Poked::Sent(left) => {
+            *waiting = left;
+            DONE
         }
-        Poked::Full => h.refuse(34),
-        Poked::NotARing => h.refuse(37),
-    }
-}
-
-// The op of row k, with its payload at byte a.
-pub fn device(
-    h: Numbers,
-    k: u8,
-    a: usize,
-    register: &mut [u64],
-    channel: &mut [u64],
-    input: &[u64],
-    output: &mut [u64],
-    bytes: &[u8],
-) -> OpAnswer
-    requires { ⌜ (h .position < mostOps) × (lanes ≤ length (now register)) × (k ≡ row.get → a + 2 ≤ length (now bytes)) × (k ≡ row.put → a + 2 ≤ length (now bytes)) ⌝ }
-    ensures { λ r. ⌜ told r (now (register .exit)) (now (channel .exit)) (now (output .exit)) ≡ deviceOf k a h (now (register .entry)) (now (channel .entry)) (now (input .entry)) (now (output .entry)) (now (bytes .entry)) ⌝ }
-{
-    match k {
-        row::GET => {
-            let mode = ops::op::mode_at(bytes, a);
-            get(h, mode, register, input)
-        }
-        row::PUT => {
-            let mode = ops::op::mode_at(bytes, a);
-            put(h, mode, register, output)
-        }
-        row::PEEK => peek(h, register, channel),
-        _ => poke(h, register, channel),
+        Poked::Full => 34,
+        Poked::NotARing => 37,
     }
 }

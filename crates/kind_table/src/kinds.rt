@@ -1,8 +1,7 @@
 // The table of the 62 kinds: core kinds 0 to 39 are rows 0 to 39, standard kinds 256 to 277 are rows 40 to 61.
 ghost use mathlib.Core.Path.{_≡_};
 ghost use Prim.Native.Nat.{_≤_};
-ghost use Rattle.kind_table.specs.Kinds.{kindAt, familyOf, indexOf, runNeed};
-use crate::family;
+ghost use Rattle.kind_table.specs.Kinds.{kindAt, indexOf, runNeed};
 use crate::known;
 use crate::need;
 use crate::row;
@@ -98,59 +97,6 @@ pub fn kind_at(k: usize) -> Kind
     }
     let c = KINDS[k];
     Kind(c / 16, c / 4 % 4, c % 4)
-}
-
-// The family of an op of row k: the table's last column. A step reads it at each op, and a constant array would be laid down anew at each reading, so
-// it is one match with a row an arm.
-pub fn family_at(k: u8) -> u8
-    ensures { λ r. ⌜ r ≡ familyOf k ⌝ }
-{
-    match k {
-        row::FUNCTION => family::CONTROL,
-        row::CALL => family::CONTROL,
-        row::RETURN => family::CONTROL,
-        row::WHILE => family::CONTROL,
-        row::IF => family::CONTROL,
-        row::ELSE => family::CONTROL,
-        row::END => family::CONTROL,
-        row::INDEX => family::CELL,
-        row::OFFSET => family::OFFSET,
-        row::BITWISE_NAND => family::CELL,
-        row::BITWISE_AND => family::CELL,
-        row::BITWISE_OR => family::CELL,
-        row::BITWISE_XOR => family::CELL,
-        row::BITWISE_NOT => family::LANE,
-        row::LEFT_SHIFT => family::CELL,
-        row::LOGICAL_RIGHT_SHIFT => family::CELL,
-        row::ARITHMETIC_RIGHT_SHIFT => family::CELL,
-        row::AND => family::CELL,
-        row::OR => family::CELL,
-        row::NOT => family::LANE,
-        row::ADD => family::CELL,
-        row::SUB => family::CELL,
-        row::MUL => family::CELL,
-        row::DIV => family::CELL,
-        row::REM => family::CELL,
-        row::NEG => family::LANE,
-        row::INC => family::LANE,
-        row::DEC => family::LANE,
-        row::SWAP => family::SWAP,
-        row::IS_NON_NEGATIVE => family::LANE,
-        row::GET => family::DEVICE,
-        row::PUT => family::DEVICE,
-        row::TO_INT => family::LANE,
-        row::TO_FLOAT => family::LANE,
-        row::FLOAT_ADD => family::CELL,
-        row::FLOAT_SUB => family::CELL,
-        row::FLOAT_MUL => family::CELL,
-        row::FLOAT_DIV => family::CELL,
-        row::FLOAT_REM => family::CELL,
-        row::FLOAT_NEG => family::LANE,
-        row::FLOAT_IS_NON_NEGATIVE => family::LANE,
-        row::PEEK => family::DEVICE,
-        row::POKE => family::DEVICE,
-        _ => family::TAPE,
-    }
 }
 
 // The row of a kind's number; the row after the last where no kind has it.

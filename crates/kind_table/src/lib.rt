@@ -4,5 +4,4 @@ pub mod bracket; // those of the brackets, as places
 pub mod shape; // the payloads
 pub mod need; // the lanes needed
 pub mod known; // the lanes known after
-pub mod family; // the families of ops
 pub mod kinds; // the table

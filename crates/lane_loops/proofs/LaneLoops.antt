@@ -1,7 +1,7 @@
 -- What the proofs of the lane loops share: how long the result is, and one turn, for any rule. Assumes nothing.
 use mathlib.Core.Path.{_≡_, refl, ap}
 use mathlib.Core.List.{List, [], _∷_}
-use Prim.Native.Nat.{ℕ, zero, suc, _+_, _<_}
+use Prim.Native.Nat.{ℕ, zero, suc, _+_, _≤_, _<_}
 use native.Mathlib.Numerals.{add-one}
 use native.Mathlib.Nat.{le-of-suc-le-suc, not-suc-le-zero}
 use lib.ListN.{length, getD, set}
@@ -42,6 +42,15 @@ zip-again f i r c l v e w h k = rw (add-one i, w, e) (zip-turn f i r c h k)
 
 pub map-again : (f : ℕ → ℕ) (i : ℕ) (r l : List ℕ) (v : ℕ) → l ≡ mapTo f i r → v ≡ f (getD l i 0) → i < length r → set l i v ≡ mapTo f (i + 1) r
 map-again f i r l v e w h = rw (add-one i, w, e) (map-turn f i r h)
+
+-- the first lane alone
+pub zip-first : (f : ℕ → ℕ → ℕ) (r c : List ℕ) (v : ℕ) → v ≡ f (getD r 0 0) (getD c 0 0) → 1 ≤ length r → 1 ≤ length c → set r 0 v ≡ zipTo f 1 r c
+unfolding zipTo
+zip-first f r c v e h k = zip-again f 0 r c r v refl e h k
+
+pub map-first : (f : ℕ → ℕ) (r : List ℕ) (v : ℕ) → v ≡ f (getD r 0 0) → 1 ≤ length r → set r 0 v ≡ mapTo f 1 r
+unfolding mapTo
+map-first f r v e h = map-again f 0 r r v refl e h
 
 -- what is not done yet is as it was
 pub zip-ahead : (f : ℕ → ℕ → ℕ) (i : ℕ) (r c : List ℕ) → getD (zipTo f i r c) i 0 ≡ getD r i 0

@@ -1,4 +1,5 @@
 -- The cell ops and the lane-only ops: "21, 22, 23; n = 0 touches nothing". Assumes nothing.
+use mathlib.Core.Path.{_≡_}
 use mathlib.Core.List.{List}
 use Prim.Native.Nat.{ℕ, _+_}
 use lib.ListN.{length, drop}
@@ -7,9 +8,12 @@ use Rattle.basics.specs.Pick.{pick}
 use Rattle.lanes.specs.Int.{intAdd}
 use Rattle.lanes.specs.Lane.{cellRule, laneRule}
 use Rattle.lane_loops.specs.Loops.{zipTo, mapTo, beside}
+use Rattle.lane_loops.specs.Rows.{cellRow, laneRow}
+use Rattle.kind_table.specs.Columns.{cellFamily, laneFamily}
+use Rattle.kind_table.specs.Kinds.{familyOf}
 use Rattle.lanes.specs.declared.lane.CellOp.{CellOp}
 use Rattle.lanes.specs.declared.lane.LaneOp.{LaneOp}
-use Rattle.machine_numbers.specs.Numbers.{next, answered, OneList, oneList, Swapped, swapped}
+use Rattle.machine_numbers.specs.Numbers.{atPointer, ofLength, next, answered, onward, OneList, oneList, Swapped, swapped}
 use Rattle.machine_numbers.specs.Parts.{copied}
 use Rattle.machine_numbers.specs.declared.numbers.Numbers.{Numbers}
 
@@ -35,3 +39,10 @@ aloneOf o n p g = oneList (answered 0 (next p)) (mapTo (laneRule o) n g)
 -- by the pattern v
 unfoldable pub offsetOf : ℕ → ℕ → Numbers → List ℕ → OneList
 offsetOf v n p g = oneList (answered 0 (next p)) (mapTo (λ x. intAdd x v) n g)
+
+-- what the op of row k leaves that answers r, at the pointer `at` of a tape of the counted length l, over any numbers of a machine: g′ is the register
+-- after it. Of a row of another family it says nothing.
+pub record LaneDone (k n at l r : ℕ) (g t g′ : List ℕ) : Type 0 where
+  pub cell : familyOf k ≡ cellFamily → (p : Numbers)
+      → oneList (onward r (ofLength (atPointer p at) l)) g′ ≡ cellOf (cellRow k) n (ofLength (atPointer p at) l) g t
+  pub alone : familyOf k ≡ laneFamily → (p : Numbers) → oneList (onward r p) g′ ≡ aloneOf (laneRow k) n p g

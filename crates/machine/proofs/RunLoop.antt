@@ -1,16 +1,15 @@
 -- The turns of a run's loop, and what a step that goes on leaves to the next. Assumes nothing.
 use mathlib.Core.Path.{_≡_, _∙_, refl, ap, sym, subst}
-use mathlib.Core.Bool.{true, false, _||_}
+use mathlib.Core.Bool.{Bool, true, false, _||_}
 use mathlib.Core.List.{List}
 use Prim.Native.Nat.{ℕ, zero, suc, _+_, _-_, _≤_, _<_}
 use native.Mathlib.Omega.{arith}
 use native.Mathlib.Numerals.{add-one}
-use native.Mathlib.Nat.{sub-zero}
 use lib.Dec.{leb}
 use lib.ListN.{length, getD}
 use mir.Val
 use mir.Syntax.{w8}
-use borrow.Author.Tests.{leb-false, eq-eqb, ne-eqb, eqb-false}
+use borrow.Author.Tests.{leb-false, le-leb, lt-leb, eq-eqb, ne-eqb, eqb-false}
 use Rattle.basics.specs.Pick.{pick}
 use Rattle.basics.proofs.Tests.{byCase, or-right}
 use Rattle.basics.specs.Limits.{mostOps}
@@ -19,17 +18,17 @@ use Rattle.ops.specs.Patch.{patchOf}
 use Rattle.file_laws.proofs.Items.{few-items}
 use Rattle.machine_model.specs.Step.{Outcome, step}
 use Rattle.machine_model.specs.Step.Outcome.{next}
-use Rattle.partners.specs.Columns.{Stored, Places, partnersOf}
-use Rattle.partners.proofs.Stored.{partner-at}
+use Rattle.partners.specs.Columns.{Stored}
 use Rattle.machine_numbers.specs.declared.numbers.Numbers.{Numbers}
-use Rattle.machine_step.specs.Held.{Held, After, Code, code}
+use Rattle.machine_numbers.specs.Numbers.{OpAnswer, answered, halt, gathered, running, stepped}
+use Rattle.machine_step.specs.Held.{Held, held, After, after, Code}
 use Rattle.machine_step.specs.Step.{stepOf}
 use Rattle.bridge.specs.View.{view, laid}
 use Rattle.bridge.specs.Decoded.{codeOf, givenTo}
 use Rattle.machine_step.specs.Payloads.{PayloadsInBytes}
 use Rattle.machine_step.specs.CanStep.{CanStep}
 use Rattle.bridge.specs.Fits.{Fits}
-use Rattle.bridge.specs.Run.{ran, runOf}
+use Rattle.bridge.specs.Run.{Ran, ran, runOf}
 use Rattle.bridge.proofs.Decoded.{Bytes, rows, many-rows, payloads-in-bytes, places-stored}
 use Rattle.bridge.proofs.Steps.{step-is}
 use Rattle.bridge.proofs.Real.{Real, step-real}
@@ -50,18 +49,16 @@ module _ (x : Code) (input : List ℕ) (c : Held) where
     unfolding runOf pick overOf
     run-spent b k z = rw (z, e) refl
 
-    module _ (budget k : ℕ) (h : k < budget) (o : After) (q : o ≡ stepOf x input c) where
-      pub run-on : o .number ≡ 0 → runOf (budget - (k + 1)) (k + 1) x input (o .held) ≡ runOf (budget - k) k x input c
+    module _ (o : After) (q : o ≡ stepOf x input c) where
+      pub run-on : (b k : ℕ) → (b ≡ 0 → ⊥) → o .number ≡ 0 → runOf (b - 1) (k + 1) x input (o .held) ≡ runOf b k x input c
       unfolding runOf pick overOf
-      run-on a =
-          let z : budget - k ≡ suc (budget - (k + 1)) = omega arith in
-          rw (z, e, ← q, eq-eqb (o .number) 0 a, add-one k) refl
+      run-on zero k z a = absurd (z refl)
+      run-on (suc b) k z a = let d : suc b - 1 ≡ b = omega arith in rw (e, ← q, eq-eqb (o .number) 0 a, add-one k, d) refl
 
-      pub run-refused : (o .number ≡ 0 → ⊥) → runOf (budget - k) k x input c ≡ ran (Refused (o .number)) k (o .held)
+      pub run-refused : (b k : ℕ) → (b ≡ 0 → ⊥) → (o .number ≡ 0 → ⊥) → runOf b k x input c ≡ ran (Refused (o .number)) k (o .held)
       unfolding runOf pick overOf
-      run-refused a =
-          let z : budget - k ≡ suc (budget - (k + 1)) = omega arith in
-          rw (z, e, ← q, ne-eqb (o .number) 0 a) refl
+      run-refused zero k z a = absurd (z refl)
+      run-refused (suc b) k z a = rw (e, ← q, ne-eqb (o .number) 0 a) refl
 
 -- ---- a step of what is good and well formed
 
@@ -99,31 +96,10 @@ op-here s input x c h e =
     let n : length (x .rows) ≡ length (patchOf s .items) = ap (λ (y : Code). length (y .rows)) (h .read) ∙ many-rows s in
     (not-past (c .numbers) _ e, omega (arith, n, few-items s))
 
--- the places that are stored, and what a step is told of them
-places : (s : List ℕ) (x : Code) → x ≡ codeOf s → Stored (x .rows) (x .partners) (x .turns) (x .marks)
-places s x e = subst (λ (y : Code). Stored (y .rows) (y .partners) (y .turns) (y .marks)) (sym e) (places-stored s)
-
-abbrev pub withStored : Code → Code
-withStored x = code (x .rows) (x .counts) (x .needs) (x .payloads) (partnersOf (x .rows)) (x .turns) (x .marks) (x .bytes)
-
-stored-again : (s : List ℕ) (x : Code) → x ≡ codeOf s → withStored x ≡ x
-unfolding codeOf
-stored-again s x e = ap withStored e ∙ sym e
-
--- a step over them is a step over the patch that is read
-pub stepped-as : (s input : List ℕ) (x : Code) (c : Held) → ReadyToRun s input x c → (o : After) → o ≡ stepOf (withStored x) input c → o ≡ stepOf x input c
-stepped-as s input x c h o q = q ∙ ap (λ (y : Code). stepOf y input c) (stored-again s x (h .read))
-
--- the op at the position has its partner
-pub partner-here : (s input : List ℕ) (x : Code) (c : Held) → ReadyToRun s input x c → overOf (c .numbers) (length (x .rows)) ≡ false
-    → c .numbers .position < length (x .partners)
-partner-here s input x c h e = partner-at (x .rows) (x .partners) (places s x (h .read) .partners) (c .numbers .position) (op-here s input x c h e .0) .0
-
 -- what a step asks
 pub step-asks : (s input : List ℕ) (x : Code) (c : Held) → ReadyToRun s input x c → overOf (c .numbers) (length (x .rows)) ≡ false
-    → (w : ℕ) → w ≡ getD (x .partners) (c .numbers .position) 0
-    → CanStep (x .rows) c × PayloadsInBytes (withStored x) × Places (x .rows) (c .numbers .position) w (x .turns) (x .marks)
-step-asks s input x c h e w q =
+    → CanStep (x .rows) c × PayloadsInBytes x × Stored (x .rows) (x .partners) (x .turns) (x .marks)
+step-asks s input x c h e =
     let k = h .fits .counted in
     let f = h .fits .formed in
     let o = op-here s input x c h e in (
@@ -134,8 +110,8 @@ step-asks s input x c h e w q =
         near = f .near;
         short = f .short;
       },
-      subst (λ (y : Code). PayloadsInBytes y) (sym (stored-again s x (h .read) ∙ h .read)) (payloads-in-bytes s),
-      let p = places s x (h .read) in record { partner = q ∙ partner-at (x .rows) (x .partners) (p .partners) (c .numbers .position) (o .0) .1; turns = p .turns; marks = p .marks },
+      subst (λ (y : Code). PayloadsInBytes y) (sym (h .read)) (payloads-in-bytes s),
+      subst (λ (y : Code). Stored (y .rows) (y .partners) (y .turns) (y .marks)) (sym (h .read)) (places-stored s),
     )
 
 -- what a step leaves where it goes on is good and well formed
@@ -152,43 +128,46 @@ going-on s input x c b h e o q a =
 
 -- ---- the loop of `go`
 
--- after some steps: what is held is good and well formed, in slices as long as they were, and the run from here is the run from the start
-pub record Running (s input : List ℕ) (x : Code) (budget : ℕ) (from c : Held) (steps : ℕ) : Type 0 where
+-- after some steps, with so many left: what is held is good and well formed, in slices as long as they were, and the run from here is the run from
+-- the start
+pub record Running (s input : List ℕ) (x : Code) (budget : ℕ) (from c : Held) (left : ℕ) : Type 0 where
   pub ready : ReadyToRun s input x c
   pub register : length (c .register) ≡ length (from .register)
   pub tape : length (c .tape) ≡ length (from .tape)
   pub table : length (c .table) ≡ length (from .table)
   pub channel : length (c .channel) ≡ length (from .channel)
   pub output : length (c .output) ≡ length (from .output)
-  pub within : steps ≤ budget
-  pub same : runOf (budget - steps) steps x input c ≡ runOf budget 0 x input from
+  pub within : left ≤ budget
+  pub same : runOf left (budget - left) x input c ≡ runOf budget 0 x input from
 
 -- at first
-pub begin : {s input : List ℕ} {x : Code} {c : Held} (budget : ℕ) → ReadyToRun s input x c → Running s input x budget c c 0
+pub begin : {s input : List ℕ} {x : Code} {c : Held} (budget : ℕ) → ReadyToRun s input x c → Running s input x budget c c budget
 begin budget h =
-    record { ready = h; register = refl; tape = refl; table = refl; channel = refl; output = refl; within = omega arith; same = rw sub-zero refl }
+    let z : budget - budget ≡ 0 = omega arith in
+    record { ready = h; register = refl; tape = refl; table = refl; channel = refl; output = refl; within = omega arith; same = rw z refl }
 
-module _ {s input : List ℕ} {x : Code} {budget : ℕ} {from c : Held} {steps : ℕ} (i : Running s input x budget from c steps) where
+module _ {s input : List ℕ} {x : Code} {budget : ℕ} {from c : Held} {left : ℕ} (i : Running s input x budget from c left) where
   -- the ways out
-  pub ended : overOf (c .numbers) (length (x .rows)) ≡ true → ran Finished steps c ≡ runOf budget 0 x input from
+  pub ended : overOf (c .numbers) (length (x .rows)) ≡ true → ran Finished (budget - left) c ≡ runOf budget 0 x input from
   ended e = sym (run-done x input c _ _ e) ∙ i .same
 
   module _ (e : overOf (c .numbers) (length (x .rows)) ≡ false) where
-    pub all-spent : steps ≡ budget → ran Spent steps c ≡ runOf budget 0 x input from
-    all-spent z = sym (run-spent x input c e (budget - steps) steps (omega arith)) ∙ i .same
+    pub all-spent : left ≡ 0 → ran Spent (budget - left) c ≡ runOf budget 0 x input from
+    all-spent z = sym (run-spent x input c e left (budget - left) z) ∙ i .same
 
-    module _ (z : steps ≡ budget → ⊥) (o : After) (q : o ≡ stepOf x input c) where
-      less : steps < budget
-      less = omega (arith, i .within)
+    module _ (z : left ≡ 0 → ⊥) (o : After) (q : o ≡ stepOf x input c) where
+      pub refused-at : (o .number ≡ 0 → ⊥) → ran (Refused (o .number)) (budget - left) (o .held) ≡ runOf budget 0 x input from
+      refused-at a = sym (run-refused x input c e o q left (budget - left) z a) ∙ i .same
 
-      pub refused-at : (o .number ≡ 0 → ⊥) → ran (Refused (o .number)) steps (o .held) ≡ runOf budget 0 x input from
-      refused-at a = sym (run-refused x input c e budget steps less o q a) ∙ i .same
+      pub halted-at : o .number ≡ 0 → overOf (o .held .numbers) (length (x .rows)) ≡ true → ran Finished (budget - left + 1) (o .held) ≡ runOf budget 0 x input from
+      halted-at a h = sym (run-done x input (o .held) (left - 1) (budget - left + 1) h) ∙ run-on x input c e o q left (budget - left) z a ∙ i .same
 
       -- and on
       module _ (b : Bytes s) (a : o .number ≡ 0) where
         pub onward : length (o .held .register) ≡ length (c .register) → length (o .held .tape) ≡ length (c .tape) → length (o .held .table) ≡ length (c .table)
-            → length (o .held .channel) ≡ length (c .channel) → length (o .held .output) ≡ length (c .output) → Running s input x budget from (o .held) (steps + 1)
+            → length (o .held .channel) ≡ length (c .channel) → length (o .held .output) ≡ length (c .output) → Running s input x budget from (o .held) (left - 1)
         onward g t ts ch w =
+            let k : budget - (left - 1) ≡ budget - left + 1 = omega (arith, i .within, z) in
             record {
               ready = going-on s input x c b (i .ready) e o q a;
               register = g ∙ i .register;
@@ -196,6 +175,59 @@ module _ {s input : List ℕ} {x : Code} {budget : ℕ} {from c : Held} {steps :
               table = ts ∙ i .table;
               channel = ch ∙ i .channel;
               output = w ∙ i .output;
-              within = omega (arith, less);
-              same = run-on x input c e budget steps less o q a ∙ i .same;
+              within = omega (arith, i .within);
+              same = rw k (run-on x input c e o q left (budget - left) z a ∙ i .same);
             }
+
+-- ---- what a step answers
+
+pub as-answered : {y z : OpAnswer} {cs rs g t ts ch out : List ℕ} {o : After} → y ≡ z → after y cs rs g t ts ch out ≡ o → after z cs rs g t ts ch out ≡ o
+as-answered e w = rw (← e) w
+
+module _ (a : ℕ) (p : Numbers) where
+  pub went : a ≡ 0 → stepped a p ≡ answered 0 p
+  unfolding stepped pick
+  went e = rw e refl
+
+  pub halted : a ≡ 2 → stepped a p ≡ answered 0 (halt p)
+  unfolding stepped pick
+  halted e = rw e refl
+
+  pub refused : (a ≡ 2 → ⊥) → stepped a p ≡ answered a p
+  unfolding stepped pick
+  refused n = rw (ne-eqb a 2 n) refl
+
+-- ---- the numbers of a machine that is not halted, one by one
+
+abbrev pub opened : Held → Held
+opened c =
+    let p = c .numbers in
+    held (running (p .depth) (p .saved) (p .pointer) (p .position) (p .length) (p .lanes) (p .functions) (p .first) (p .waiting) (p .taken) (p .written))
+    (c .calls) (c .refs) (c .register) (c .tape) (c .table) (c .channel) (c .output)
+
+same-opened : (c : Held) → c .numbers .halted ≡ false → c ≡ opened c
+same-opened c e =
+    let p = c .numbers in
+    let so = gathered (p .depth) (p .saved) (p .pointer) (p .position) (p .length) (p .lanes) (p .functions) (p .first) (p .waiting) (p .taken) (p .written) in
+    ap (λ (h : Bool). held (so h) (c .calls) (c .refs) (c .register) (c .tape) (c .table) (c .channel) (c .output)) e
+
+pub open-at-first : {s input : List ℕ} {x : Code} {c : Held} (budget : ℕ) → ReadyToRun s input x c → c .numbers .halted ≡ false
+    → Running s input x budget (opened c) (opened c) budget
+open-at-first {s} {input} {x} {c} budget h e = begin budget (subst (λ (d : Held). ReadyToRun s input x d) (same-opened c e) h)
+
+pub from-first : (x : Code) (input : List ℕ) (budget : ℕ) (c : Held) (r : Ran) → c .numbers .halted ≡ false
+    → r ≡ runOf budget 0 x input (opened c) → r ≡ runOf budget 0 x input c
+from-first x input budget c r e w = w ∙ ap (λ (d : Held). runOf budget 0 x input d) (sym (same-opened c e))
+
+pub over-halted : (p : Numbers) (n : ℕ) → p .halted ≡ true → overOf p n ≡ true
+unfolding overOf
+over-halted p n e = rw e refl
+
+module _ (p : Numbers) (n : ℕ) (e : p .halted ≡ false) where
+  pub over-past : n ≤ p .position → overOf p n ≡ true
+  unfolding overOf
+  over-past h = rw (e, le-leb n (p .position) h) refl
+
+  pub over-before : p .position < n → overOf p n ≡ false
+  unfolding overOf
+  over-before h = rw (e, lt-leb n (p .position) h) refl

@@ -5,7 +5,8 @@ ghost use Rattle.machine_step.specs.Held.{held, code};
 ghost use Rattle.bridge.specs.Run.{ran, runOf};
 ghost use Rattle.machine.specs.Ready.{ReadyToRun, overOf};
 use answers::run::Answer;
-use basics::wide::wide_short;
+use machine_numbers::numbers::DONE;
+use machine_numbers::numbers::HALTED;
 use machine_numbers::numbers::Numbers;
 
 // What the steps leave beside the stacks and the slices.
@@ -13,16 +14,6 @@ pub struct Ended {
     pub answer: Answer,
     pub steps: u32,
     pub numbers: Numbers,
-}
-
-// Halted, or past the last of n ops.
-fn over(h: Numbers, n: usize) -> bool
-    ensures { λ r. ⌜ r ≡ overOf h n ⌝ }
-{
-    if h.halted {
-        return true;
-    }
-    n <= h.position
 }
 
 // Steps until the machine is finished, the budget is spent or a step is refused.
@@ -49,32 +40,83 @@ pub fn go(
     requires { ⌜ ReadyToRun (now bytes) (now input) (code (now rows) (now counts) (now needs) (now payloads) (now partners) (now turns) (now marks) (now bytes)) (held numbers (now calls) (now refs) (now register) (now tape) (now table) (now channel) (now output)) ⌝ }
     ensures { λ r. ⌜ ran (r .answer) (r .steps) (held (r .numbers) (now (calls .exit)) (now (refs .exit)) (now (register .exit)) (now (tape .exit)) (now (table .exit)) (now (channel .exit)) (now (output .exit))) ≡ runOf budget 0 (code (now (rows .entry)) (now (counts .entry)) (now (needs .entry)) (now (payloads .entry)) (now (partners .entry)) (now (turns .entry)) (now (marks .entry)) (now (bytes .entry))) (now (input .entry)) (held numbers (now (calls .entry)) (now (refs .entry)) (now (register .entry)) (now (tape .entry)) (now (table .entry)) (now (channel .entry)) (now (output .entry))) ⌝ }
 {
-    let mut h = numbers;
-    let mut steps: u32 = 0;
+    if numbers.halted {
+        return Ended {
+            answer: Answer::Finished,
+            steps: 0,
+            numbers,
+        };
+    }
+    let mut depth = numbers.depth;
+    let mut saved = numbers.saved;
+    let mut pointer = numbers.pointer;
+    let mut position = numbers.position;
+    let mut counted = numbers.length;
+    let mut lanes = numbers.lanes;
+    let mut functions = numbers.functions;
+    let mut first = numbers.first;
+    let mut waiting = numbers.waiting;
+    let mut taken = numbers.taken;
+    let mut written = numbers.written;
+    let mut left = budget;
     loop {
-        if over(h, rows.len()) {
+        if rows.len() <= position {
             return Ended {
                 answer: Answer::Finished,
-                steps,
-                numbers: h,
+                steps: budget - left,
+                numbers: Numbers::gather(
+                    depth,
+                    saved,
+                    pointer,
+                    position,
+                    counted,
+                    lanes,
+                    functions,
+                    first,
+                    waiting,
+                    taken,
+                    written,
+                    false,
+                ),
             };
         }
-        if steps == budget {
+        if left == 0 {
             return Ended {
                 answer: Answer::Spent,
-                steps,
-                numbers: h,
+                steps: budget - left,
+                numbers: Numbers::gather(
+                    depth,
+                    saved,
+                    pointer,
+                    position,
+                    counted,
+                    lanes,
+                    functions,
+                    first,
+                    waiting,
+                    taken,
+                    written,
+                    false,
+                ),
             };
         }
-        let at = h.position;
-        let with = wide_short(partners[at]);
-        let out = machine_step::step::step(
-            h,
+        let a = machine_step::step::step(
+            &mut position,
+            &mut pointer,
+            &mut counted,
+            &mut lanes,
+            &mut depth,
+            &mut saved,
+            &mut functions,
+            &mut first,
+            &mut waiting,
+            &mut taken,
+            &mut written,
             rows,
             counts,
             needs,
             payloads,
-            with,
+            partners,
             turns,
             marks,
             bytes,
@@ -87,15 +129,46 @@ pub fn go(
             input,
             output,
         );
-        h = out.numbers;
-        let a = out.number;
-        if a != 0 {
+        if a != DONE {
+            if a == HALTED {
+                return Ended {
+                    answer: Answer::Finished,
+                    steps: budget - left + 1,
+                    numbers: Numbers::gather(
+                        depth,
+                        saved,
+                        pointer,
+                        position,
+                        counted,
+                        lanes,
+                        functions,
+                        first,
+                        waiting,
+                        taken,
+                        written,
+                        true,
+                    ),
+                };
+            }
             return Ended {
                 answer: Answer::Refused(a),
-                steps,
-                numbers: h,
+                steps: budget - left,
+                numbers: Numbers::gather(
+                    depth,
+                    saved,
+                    pointer,
+                    position,
+                    counted,
+                    lanes,
+                    functions,
+                    first,
+                    waiting,
+                    taken,
+                    written,
+                    false,
+                ),
             };
         }
-        steps += 1;
+        left -= 1;
     }
 }

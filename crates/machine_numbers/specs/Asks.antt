@@ -1,22 +1,14 @@
--- What the ops ask of the machine's numbers and of an op's payload. Assumes nothing.
+-- What the ops ask of an op's payload. Assumes nothing.
 use mathlib.Core.Path.{_≡_}
 use mathlib.Core.List.{List}
 use Prim.Native.Nat.{ℕ, _+_, _*_, _≤_, _<_}
 use lib.ListN.{length}
 use Rattle.basics.specs.Limits as limit
 use Rattle.kind_table.specs.Rows as row
-use Rattle.machine_numbers.specs.declared.numbers.Numbers.{Numbers}
 
--- the position is an op's, and the numbers that the ops reckon with are within their limits
-pub record InReach (p : Numbers) : Type 0 where
-  pub here : p .position < limit.mostOps
-  pub near : p .pointer ≤ limit.farthest
-  pub short : p .length ≤ limit.longest
-  pub depth : p .depth ≤ limit.depth
-  pub saved : p .saved ≤ limit.depth
-
--- an op of row k that counts n has its payload, from byte a on, in the bytes
+-- an op of row k, which is one of the table's, that counts n has its payload, from byte a on, in the bytes
 pub record PayloadIn (k n a : ℕ) (bs : List ℕ) : Type 0 where
+  pub known : k < 62
   pub few : n ≤ limit.lanes
   pub ints : k ≡ row.set → a + 8 * n ≤ length bs
   pub floats : k ≡ row.standardSet → a + 8 * n ≤ length bs

@@ -1,9 +1,10 @@
 -- The machine's numbers with one of them changed, and what each family of ops may change. Assumes nothing.
-use mathlib.Core.Bool.{true}
+use mathlib.Core.Bool.{Bool, true, false}
 use mathlib.Core.List.{List}
 use Prim.Native.Nat.{ℕ, _+_}
+use lib.Dec.{eqb}
+use Rattle.basics.specs.Pick.{pick}
 use Rattle.machine_numbers.specs.declared.numbers.Numbers.{Numbers}
-use Rattle.machine_numbers.specs.declared.numbers.OpAnswer.{OpAnswer}
 
 abbrev pub atPosition : Numbers → ℕ → Numbers
 atPosition p v = record { depth = p .depth; saved = p .saved; pointer = p .pointer; position = v; length = p .length; lanes = p .lanes; functions = p .functions; first = p .first; waiting = p .waiting; taken = p .taken; written = p .written; halted = p .halted }
@@ -41,9 +42,50 @@ halt p = record { depth = p .depth; saved = p .saved; pointer = p .pointer; posi
 abbrev pub next : Numbers → Numbers
 next p = atPosition p (p .position + 1)
 
--- what an op answers: 0, or the refusal's number, and the numbers after it
+-- what an op leaves: 0, or the refusal's number, and the numbers after it
+pub record OpAnswer : Type 0 where
+  pub number : ℕ
+  pub numbers : Numbers
+
 abbrev pub answered : ℕ → Numbers → OpAnswer
 answered n p = record { number = n; numbers = p }
+
+-- the numbers, one by one
+abbrev pub gathered : ℕ → ℕ → ℕ → ℕ → ℕ → ℕ → ℕ → ℕ → ℕ → ℕ → ℕ → Bool → Numbers
+gathered d s p q l n f i w t o h =
+    record { depth = d; saved = s; pointer = p; position = q; length = l; lanes = n; functions = f; first = i; waiting = w; taken = t; written = o; halted = h }
+
+-- those of a machine that is not halted
+abbrev pub running : ℕ → ℕ → ℕ → ℕ → ℕ → ℕ → ℕ → ℕ → ℕ → ℕ → ℕ → Numbers
+running d s p q l n f i w t o = gathered d s p q l n f i w t o false
+
+-- what an op answers that is done and goes on to the next op, one that has set the position, and a Return that halts; a refused one answers the
+-- refusal's number
+abbrev pub done : ℕ
+done = 0
+
+abbrev pub jumping : ℕ
+jumping = 1
+
+abbrev pub halting : ℕ
+halting = 2
+
+-- what an op at the place `at` leaves that answers a; p has the numbers that it has set
+unfoldable pub left : ℕ → ℕ → Numbers → OpAnswer
+unfolding pick
+left a at p =
+    pick (eqb a done) (answered 0 (atPosition p (at + 1)))
+    (pick (eqb a jumping) (answered 0 p)
+    (pick (eqb a halting) (answered 0 (atPosition (halt p) (at + 1))) (answered a (atPosition p at))))
+
+-- of an op that is not lent the position
+abbrev pub onward : ℕ → Numbers → OpAnswer
+onward a p = left a (p .position) p
+
+-- what a step leaves that answers a: halting is an answer, and not yet among the numbers p
+unfoldable pub stepped : ℕ → Numbers → OpAnswer
+unfolding pick
+stepped a p = pick (eqb a halting) (answered 0 (halt p)) (answered a p)
 
 -- the ops that steer: calls and function table
 pub record Steered : Type 0 where

@@ -1,11 +1,17 @@
-// The machine's numbers: all that a step passes by value.
+// The machine's numbers.
 ghost use mathlib.Core.Path.{_≡_};
-ghost use Prim.Native.Nat.{_+_, _<_};
-ghost use Rattle.basics.specs.Limits.{mostOps};
-ghost use Rattle.machine_numbers.specs.Numbers.{answered, next, atPosition};
+ghost use Rattle.machine_numbers.specs.Numbers.{gathered};
 
 // The sign's bit: a lane or cell of at least this has a negative integer.
 pub const SIGN: u64 = 0x8000000000000000;
+
+// What an op answers that is done and goes on to the next op, one that has set the position, and a Return that halts. A refused one answers the
+// refusal's number.
+pub const DONE: u32 = 0;
+
+pub const JUMPED: u32 = 1;
+
+pub const HALTED: u32 = 2;
 
 pub struct Numbers {
     pub depth: usize,
@@ -22,12 +28,6 @@ pub struct Numbers {
     pub halted: bool,
 }
 
-// What an op answers: 0, or the refusal's number, and the numbers after it.
-pub struct OpAnswer {
-    pub number: u32,
-    pub numbers: Numbers,
-}
-
 impl Numbers {
     pub const POINTER: usize = 1000000000;
 
@@ -40,34 +40,36 @@ impl Numbers {
 
     pub const REFS: usize = 256;
 
-    pub fn refuse(self, n: u32) -> OpAnswer
-        ensures { λ r. ⌜ r ≡ answered n self ⌝ }
+    // The numbers, gathered after a run has had them one by one.
+    pub fn gather(
+        depth: usize,
+        saved: usize,
+        pointer: usize,
+        position: usize,
+        length: usize,
+        lanes: usize,
+        functions: usize,
+        first: usize,
+        waiting: usize,
+        taken: usize,
+        written: usize,
+        halted: bool,
+    ) -> Numbers
+        ensures { λ r. ⌜ r ≡ gathered depth saved pointer position length lanes functions first waiting taken written halted ⌝ }
     {
-        OpAnswer {
-            number: n,
-            numbers: self,
-        }
-    }
-
-    pub fn goto(mut self, to: usize) -> OpAnswer
-        ensures { λ r. ⌜ r ≡ answered 0 (atPosition self to) ⌝ }
-    {
-        self.position = to;
-        OpAnswer {
-            number: 0,
-            numbers: self,
-        }
-    }
-
-    pub fn next(mut self) -> OpAnswer
-        requires { ⌜ self .position < mostOps ⌝ }
-        ensures { λ r. ⌜ r ≡ answered 0 (next self) ⌝ }
-    {
-        let p = self.position;
-        self.position = p + 1;
-        OpAnswer {
-            number: 0,
-            numbers: self,
+        Numbers {
+            depth,
+            saved,
+            pointer,
+            position,
+            length,
+            lanes,
+            functions,
+            first,
+            waiting,
+            taken,
+            written,
+            halted,
         }
     }
 }

@@ -2,8 +2,7 @@
 use mathlib.Core.List.{List}
 use Prim.Native.Nat.{ℕ}
 use Rattle.machine_numbers.specs.declared.numbers.Numbers.{Numbers}
-use Rattle.machine_numbers.specs.declared.numbers.OpAnswer.{OpAnswer}
-use Rattle.machine_numbers.specs.Numbers.{Steered, OneList, Swapped, Taped, Told}
+use Rattle.machine_numbers.specs.Numbers.{Steered, OneList, Swapped, Taped, Told, OpAnswer}
 
 -- the slices that a call is lent and may change
 pub record Slices : Type 0 where

@@ -10,9 +10,8 @@ use Rattle.lane_loops.specs.Loops.{zipTo, beside}
 use Rattle.byte_fields.specs.Bytes.{u64At, valuesAt}
 use Rattle.byte_fields.specs.Storage.{fill}
 use Rattle.machine_numbers.specs.Parts.{copied}
-use Rattle.machine_numbers.specs.Numbers.{atPointer, ofLength, ofLanes, ofSaved, next, answered, OneList, oneList, Taped, taped}
+use Rattle.machine_numbers.specs.Numbers.{atPointer, ofLength, ofLanes, ofSaved, next, answered, OneList, oneList, Taped, taped, OpAnswer}
 use Rattle.machine_numbers.specs.declared.numbers.Numbers.{Numbers}
-use Rattle.machine_numbers.specs.declared.numbers.OpAnswer.{OpAnswer}
 
 abbrev pub growth : ℕ
 growth = 100_000

@@ -1,16 +1,16 @@
-// The ops of the register as a whole, of the pointer and of the tape: Set, Store, Load, Move, Where, Deref, Refer, Alloc, Free, and comments.
+// The ops of the register as a whole, of the pointer and of the tape: Set, Store, Load, Move, Where, Deref, Refer, Alloc. Each is lent the numbers
+// that it may change; its contract is over any numbers p of a machine, with these among them.
 ghost use mathlib.Core.Path.{_≡_};
 ghost use Prim.Native.Nat.{_+_, _-_, _*_, _^_, _≤_, _<_};
 ghost use lib.ListN.{length};
-ghost use Rattle.basics.specs.Limits.{mostOps, lanes, depth, farthest, longest};
-ghost use Rattle.machine_numbers.specs.Asks.{InReach, PayloadIn};
-ghost use Rattle.machine_numbers.specs.Numbers.{ofLength, next, answered, oneList, taped};
-ghost use Rattle.tape_ops.specs.Tape.{reach, setOf, loadOf, storeOf, moveOf, whereOf, derefOf, referOf, stocked, allocOf, tapeOf};
+ghost use Rattle.basics.specs.Limits as limit;
+ghost use Rattle.machine_numbers.specs.declared.numbers.Numbers.{Numbers};
+ghost use Rattle.machine_numbers.specs.Numbers.{atPointer, ofLength, ofLanes, ofSaved, onward, oneList};
+ghost use Rattle.tape_ops.specs.Tape.{reach, setOf, loadOf, storeOf, moveOf, whereOf, derefOf, referOf, stocked, allocOf};
 use basics::wide::wide_int;
-use kind_table::row;
 use machine_numbers::cells::had;
+use machine_numbers::numbers::DONE;
 use machine_numbers::numbers::Numbers;
-use machine_numbers::numbers::OpAnswer;
 use machine_numbers::numbers::SIGN;
 
 // The farthest pointer, as a cell holds it.
@@ -29,7 +29,7 @@ fn size_of_negative(a: u64) -> usize
 
 // The counted length, grown to reach beyond the place e.
 fn grow(l: usize, e: usize) -> usize
-    requires { ⌜ (l ≤ longest) × (e ≤ farthest + lanes) ⌝ }
+    requires { ⌜ (l ≤ limit.longest) × (e ≤ limit.farthest + limit.lanes) ⌝ }
     ensures { λ r. ⌜ r ≡ reach l e ⌝ }
 {
     if e < l {
@@ -38,21 +38,10 @@ fn grow(l: usize, e: usize) -> usize
     l + GROWTH * ((e - l) / GROWTH + 1)
 }
 
-// On to the next op, with the counted length grown to reach beyond n cells from the pointer on.
-fn reached(mut h: Numbers, n: usize) -> OpAnswer
-    requires { ⌜ InReach h × (n ≤ lanes) ⌝ }
-    ensures { λ r. ⌜ r ≡ answered 0 (next (ofLength h (reach (h .length) (h .pointer + n)))) ⌝ }
-{
-    let at = h.pointer;
-    let l = h.length;
-    h.length = grow(l, at + n);
-    h.next()
-}
-
 // The counted length that an Alloc begins with.
 fn stock(l: usize) -> usize
-    requires { ⌜ l ≤ longest ⌝ }
-    ensures { λ r. ⌜ (r ≡ stocked l) × (r ≤ longest) × (0 < r) ⌝ }
+    requires { ⌜ l ≤ limit.longest ⌝ }
+    ensures { λ r. ⌜ (r ≡ stocked l) × (r ≤ limit.longest) × (0 < r) ⌝ }
 {
     if l == 0 {
         return Numbers::FIRST_BLOCK;
@@ -60,166 +49,172 @@ fn stock(l: usize) -> usize
     l
 }
 
-fn set(mut h: Numbers, n: usize, a: usize, register: &mut [u64], bytes: &[u8]) -> OpAnswer
-    requires { ⌜ (h .position < mostOps) × (n ≤ lanes) × (lanes ≤ length (now register)) × (a + 8 * n ≤ length (now bytes)) ⌝ }
-    ensures { λ r. ⌜ oneList r (now (register .exit)) ≡ setOf n a h (now (register .entry)) (now (bytes .entry)) ⌝ }
+pub fn set(n: usize, a: usize, lanes: &mut usize, register: &mut [u64], bytes: &[u8]) -> u32
+    requires { ⌜ (n ≤ limit.lanes) × (limit.lanes ≤ length (now register)) × (a + 8 * n ≤ length (now bytes)) ⌝ }
+    ensures { λ r. ⌜ ((p : Numbers) → oneList (onward r (ofLanes p (now (lanes .exit)))) (now (register .exit)) ≡ setOf n a p (now (register .entry)) (now (bytes .entry))) ⌝ }
 {
+    *lanes = n;
+    if n == 1 {
+        register[0] = byte_fields::read::u64_at(bytes, a);
+        return DONE;
+    }
     byte_fields::read::read_values(register, bytes, a, n);
-    h.lanes = n;
-    h.next()
+    DONE
 }
 
-fn load(mut h: Numbers, n: usize, register: &mut [u64], tape: &[u64]) -> OpAnswer
-    requires { ⌜ InReach h × (n ≤ lanes) × (lanes ≤ length (now register)) ⌝ }
-    ensures { λ r. ⌜ oneList r (now (register .exit)) ≡ loadOf n h (now (register .entry)) (now (tape .entry)) ⌝ }
+// One lane, and the lane of an op that counts none, are told apart first: no loop is made ready for them.
+pub fn load(
+    n: usize,
+    at: usize,
+    counted: &mut usize,
+    lanes: &mut usize,
+    register: &mut [u64],
+    tape: &[u64],
+) -> u32
+    requires { ⌜ (at ≤ limit.farthest) × (now counted ≤ limit.longest) × (n ≤ limit.lanes) × (limit.lanes ≤ length (now register)) ⌝ }
+    ensures { λ r. ⌜ ((p : Numbers) → oneList (onward r (ofLanes (ofLength (atPointer p at) (now (counted .exit))) (now (lanes .exit)))) (now (register .exit)) ≡ loadOf n (ofLanes (ofLength (atPointer p at) (now (counted .entry))) (now (lanes .entry))) (now (register .entry)) (now (tape .entry))) ⌝ }
 {
-    let at = h.pointer;
+    let l = *counted;
+    if n == 1 {
+        if tape.len() <= at {
+            return 23;
+        }
+        lane_loops::loops::copy_one(register, &tape[at..]);
+        *lanes = n;
+        *counted = grow(l, at + n);
+        return DONE;
+    }
     if n == 0 {
-        h.lanes = n;
-        return reached(h, n);
+        *lanes = n;
+        *counted = grow(l, at + n);
+        return DONE;
     }
     if had(tape.len(), at) < n {
-        return h.refuse(23);
+        return 23;
     }
     lane_loops::loops::copy_lanes(register, &tape[at..], n);
-    h.lanes = n;
-    reached(h, n)
+    *lanes = n;
+    *counted = grow(l, at + n);
+    DONE
 }
 
-fn store(h: Numbers, n: usize, register: &[u64], tape: &mut [u64]) -> OpAnswer
-    requires { ⌜ InReach h × (n ≤ lanes) × (lanes ≤ length (now register)) ⌝ }
-    ensures { λ r. ⌜ oneList r (now (tape .exit)) ≡ storeOf n h (now (register .entry)) (now (tape .entry)) ⌝ }
+pub fn store(n: usize, at: usize, counted: &mut usize, register: &[u64], tape: &mut [u64]) -> u32
+    requires { ⌜ (at ≤ limit.farthest) × (now counted ≤ limit.longest) × (n ≤ limit.lanes) × (limit.lanes ≤ length (now register)) ⌝ }
+    ensures { λ r. ⌜ ((p : Numbers) → oneList (onward r (ofLength (atPointer p at) (now (counted .exit)))) (now (tape .exit)) ≡ storeOf n (ofLength (atPointer p at) (now (counted .entry))) (now (register .entry)) (now (tape .entry))) ⌝ }
 {
-    let at = h.pointer;
+    let l = *counted;
+    if n == 1 {
+        if tape.len() <= at {
+            return 23;
+        }
+        lane_loops::loops::copy_one(&mut tape[at..], register);
+        *counted = grow(l, at + n);
+        return DONE;
+    }
     if n == 0 {
-        return reached(h, n);
+        *counted = grow(l, at + n);
+        return DONE;
     }
     if had(tape.len(), at) < n {
-        return h.refuse(23);
+        return 23;
     }
     lane_loops::loops::copy_lanes(&mut tape[at..], register, n);
-    reached(h, n)
+    *counted = grow(l, at + n);
+    DONE
 }
 
 // Move: by the signed amount that the pattern a has.
-fn move_op(mut h: Numbers, a: u64) -> OpAnswer
-    requires { ⌜ (h .pointer ≤ farthest) × (h .position < mostOps) ⌝ }
-    ensures { λ r. ⌜ r ≡ moveOf a h ⌝ }
+pub fn move_op(a: u64, pointer: &mut usize) -> u32
+    requires { ⌜ now pointer ≤ limit.farthest ⌝ }
+    ensures { λ r. ⌜ ((p : Numbers) → onward r (atPointer p (now (pointer .exit))) ≡ moveOf a (atPointer p (now (pointer .entry)))) ⌝ }
 {
-    let at = h.pointer;
+    let at = *pointer;
     if a < SIGN {
         let to = at + (a as usize);
         if to <= Numbers::POINTER {
-            h.pointer = to;
-            return h.next();
+            *pointer = to;
+            return DONE;
         }
-        return h.refuse(25);
+        return 25;
     }
     let b = size_of_negative(a);
     if b <= at {
-        h.pointer = at - b;
-        return h.next();
+        *pointer = at - b;
+        return DONE;
     }
-    h.refuse(24)
+    24
 }
 
-fn where_op(h: Numbers, register: &mut [u64]) -> OpAnswer
-    requires { ⌜ (h .position < mostOps) × (lanes ≤ length (now register)) ⌝ }
-    ensures { λ r. ⌜ oneList r (now (register .exit)) ≡ whereOf h (now (register .entry)) ⌝ }
+pub fn where_op(at: usize, register: &mut [u64]) -> u32
+    requires { ⌜ limit.lanes ≤ length (now register) ⌝ }
+    ensures { λ r. ⌜ ((p : Numbers) → oneList (onward r (atPointer p at)) (now (register .exit)) ≡ whereOf (atPointer p at) (now (register .entry))) ⌝ }
 {
-    let at = h.pointer;
     register[0] = at as u64;
-    h.next()
+    DONE
 }
 
-fn deref(mut h: Numbers, refs: &mut [u32; Numbers::REFS], tape: &[u64]) -> OpAnswer
-    requires { ⌜ InReach h × (length (now refs) ≡ depth) ⌝ }
-    ensures { λ r. ⌜ oneList r (now (refs .exit)) ≡ derefOf h (now (refs .entry)) (now (tape .entry)) ⌝ }
+pub fn deref(
+    pointer: &mut usize,
+    counted: &mut usize,
+    saved: &mut usize,
+    refs: &mut [u32; Numbers::REFS],
+    tape: &[u64],
+) -> u32
+    requires { ⌜ (now pointer ≤ limit.farthest) × (now counted ≤ limit.longest) × (length (now refs) ≡ limit.depth) ⌝ }
+    ensures { λ r. ⌜ ((p : Numbers) → oneList (onward r (ofSaved (ofLength (atPointer p (now (pointer .exit))) (now (counted .exit))) (now (saved .exit)))) (now (refs .exit)) ≡ derefOf (ofSaved (ofLength (atPointer p (now (pointer .entry))) (now (counted .entry))) (now (saved .entry))) (now (refs .entry)) (now (tape .entry))) ⌝ }
 {
-    let at = h.pointer;
-    let l = h.length;
-    let s = h.saved;
+    let at = *pointer;
+    let l = *counted;
+    let s = *saved;
     if Numbers::REFS <= s {
-        return h.refuse(32);
+        return 32;
     }
     if tape.len() <= at {
-        return h.refuse(23);
+        return 23;
     }
     let v = tape[at];
     if SIGN <= v {
-        return h.refuse(26);
+        return 26;
     }
     if FARTHEST < v {
-        return h.refuse(25);
+        return 25;
     }
     refs[s] = at as u32;
-    h.length = grow(l, at);
-    h.saved = s + 1;
-    h.pointer = v as usize;
-    h.next()
+    *counted = grow(l, at);
+    *saved = s + 1;
+    *pointer = v as usize;
+    DONE
 }
 
-fn refer(mut h: Numbers, refs: &[u32; Numbers::REFS]) -> OpAnswer
-    requires { ⌜ (h .position < mostOps) × (h .saved ≤ depth) × (length (now refs) ≡ depth) ⌝ }
-    ensures { λ r. ⌜ r ≡ referOf h (now (refs .entry)) ⌝ }
+pub fn refer(pointer: &mut usize, saved: &mut usize, refs: &[u32; Numbers::REFS]) -> u32
+    requires { ⌜ (now saved ≤ limit.depth) × (length (now refs) ≡ limit.depth) ⌝ }
+    ensures { λ r. ⌜ ((p : Numbers) → onward r (ofSaved (atPointer p (now (pointer .exit))) (now (saved .exit))) ≡ referOf (ofSaved (atPointer p (now (pointer .entry))) (now (saved .entry))) (now (refs .entry))) ⌝ }
 {
-    let s = h.saved;
+    let s = *saved;
     if s == 0 {
-        return h.refuse(27);
+        return 27;
     }
     let e = s - 1;
-    let p = wide_int(refs[e]);
-    h.saved = e;
-    h.pointer = p;
-    h.next()
+    *saved = e;
+    *pointer = wide_int(refs[e]);
+    DONE
 }
 
-fn alloc(mut h: Numbers, register: &mut [u64]) -> OpAnswer
-    requires { ⌜ (h .position < mostOps) × (h .length ≤ longest) × (lanes ≤ length (now register)) ⌝ }
-    ensures { λ r. ⌜ oneList r (now (register .exit)) ≡ allocOf h (now (register .entry)) ⌝ }
+pub fn alloc(counted: &mut usize, register: &mut [u64]) -> u32
+    requires { ⌜ (now counted ≤ limit.longest) × (limit.lanes ≤ length (now register)) ⌝ }
+    ensures { λ r. ⌜ ((p : Numbers) → oneList (onward r (ofLength p (now (counted .exit)))) (now (register .exit)) ≡ allocOf (ofLength p (now (counted .entry))) (now (register .entry))) ⌝ }
 {
-    let l = h.length;
+    let l = *counted;
     let v = register[0];
     if SIGN <= v {
-        return h.refuse(30);
+        return 30;
     }
     let g = stock(l);
     let to = g + (v as usize);
     if Numbers::LENGTH < to {
-        return h.refuse(30);
+        return 30;
     }
     register[0] = (g - 1) as u64;
-    h.length = to;
-    h.next()
-}
-
-// The op of row k, with n lanes or values and its payload at byte a.
-pub fn tape(
-    h: Numbers,
-    k: u8,
-    n: usize,
-    a: usize,
-    refs: &mut [u32; Numbers::REFS],
-    register: &mut [u64],
-    tape: &mut [u64],
-    bytes: &[u8],
-) -> OpAnswer
-    requires { ⌜ InReach h × (lanes ≤ length (now register)) × (length (now refs) ≡ depth) × PayloadIn k n a (now bytes) ⌝ }
-    ensures { λ r. ⌜ taped r (now (refs .exit)) (now (register .exit)) (now (tape .exit)) ≡ tapeOf k n a h (now (refs .entry)) (now (register .entry)) (now (tape .entry)) (now (bytes .entry)) ⌝ }
-{
-    match k {
-        row::SET => set(h, n, a, register, bytes),
-        row::STORE => store(h, n, register, tape),
-        row::LOAD => load(h, n, register, tape),
-        row::MOVE => {
-            let by = byte_fields::read::u64_at(bytes, a);
-            move_op(h, by)
-        }
-        row::WHERE => where_op(h, register),
-        row::DEREF => deref(h, refs, tape),
-        row::REFER => refer(h, refs),
-        row::STANDARD_SET => set(h, n, a, register, bytes),
-        row::ALLOC => alloc(h, register),
-        _ => h.next(),
-    }
+    *counted = to;
+    DONE
 }

@@ -1,25 +1,24 @@
 -- `device_ops::device::poke` meets its contract. Assumes nothing.
+use Rattle.basics.specs.Pick.{pick}
+use Rattle.machine_numbers.specs.Numbers.{left}
 use Rattle.device_ops.specs.Device.{pokingOf}
 use borrow.Author.Needs.{needs}
 use Rattle.device_ops.proofs.device.poke.Statement.{statement}
 use Rattle.device_ops.proofs.device.poke.Tie as tie
 
 pub poke-spec : {M : Type 1} → statement M
-unfolding pokingOf
+unfolding pokingOf left pick
 poke-spec =
     tie.close
     (tie.spec
     (λ c. search needs)
     (λ c κs. search needs)
     (λ c. search needs)
-    (λ c κs. search needs)
     (λ c. search needs)
-    (λ c κs. search needs)
     (λ c. search needs)
-    (λ c κs. search needs)
     (λ c. search needs)
-    (λ c. simp (c .before .before .waiting .given .1, ← (c .before .before .before .before .before .before .poke .ensures), c .next .ensures))
+    (λ c p. simp (c .before .left .given .1, ← (c .before .before .before .before .before .poke .ensures)))
     (λ c. search needs)
-    (λ c. simp (c .before .enum-told .given .1, ← (c .before .before .before .before .before .poke .ensures), c .refuse .ensures))
+    (λ c p. simp (c .enum-told .given .1, ← (c .before .before .before .before .poke .ensures)))
     (λ c. search needs)
-    (λ c. simp (c .before .enum-told2 .given .1, ← (c .before .before .before .before .before .poke .ensures), c .refuse2 .ensures)))
+    (λ c p. simp (c .enum-told2 .given .1, ← (c .before .before .before .before .poke .ensures))))

@@ -1,63 +1,89 @@
 -- `machine::going::go` meets its contract. Assumes nothing.
 use mathlib.Core.Path.{_≡_, _∙_, refl, sym}
-use Prim.Native.Nat.{_-_}
 use native.Mathlib.Omega.{arith}
 use borrow.Author.Needs.{needs}
+use Rattle.machine_numbers.specs.Numbers.{running}
 use Rattle.machine_step.specs.Held.{held, code}
-use Rattle.machine.proofs.RunLoop.{op-here, partner-here, step-asks, stepped-as, bytes-of, Running, begin, ended, all-spent, refused-at, onward}
+use Rattle.machine.proofs.RunLoop.{run-done, step-asks, bytes-of, Running, ended, all-spent, refused-at, halted-at, onward, as-answered, went, halted, refused, open-at-first, from-first, over-halted, over-past, over-before}
 use Rattle.machine.proofs.going.go.Statement.{statement}
 use Rattle.machine.proofs.going.go.Tie as tie
 
 abbrev Inv-loop : tie.InvT-loop
-Inv-loop rows counts needs payloads partners turns marks bytes calls₀ refs₀ register₀ tape₀ table₀ channel₀ input output₀ budget h₀ steps₀ calls refs register tape table channel output h steps =
+Inv-loop rows counts needs payloads partners turns marks bytes calls₀ refs₀ register₀ tape₀ table₀ channel₀ input output₀ budget
+    depth₀ saved₀ pointer₀ position₀ counted₀ lanes₀ functions₀ first₀ waiting₀ taken₀ written₀ left₀
+    calls refs register tape table channel output depth saved pointer position counted lanes functions first waiting taken written left =
     Running bytes input (code rows counts needs payloads partners turns marks bytes) budget
-    (held h₀ calls₀ refs₀ register₀ tape₀ table₀ channel₀ output₀)
-    (held h calls refs register tape table channel output) steps
+    (held (running depth₀ saved₀ pointer₀ position₀ counted₀ lanes₀ functions₀ first₀ waiting₀ taken₀ written₀) calls₀ refs₀ register₀ tape₀ table₀ channel₀ output₀)
+    (held (running depth saved pointer position counted lanes functions first waiting taken written) calls refs register tape table channel output) left
 
 abbrev μ-loop : tie.MeasureT-loop
-μ-loop rows counts needs payloads partners turns marks bytes calls₀ refs₀ register₀ tape₀ table₀ channel₀ input output₀ budget h₀ steps₀ calls refs register tape table channel output h steps = budget - steps
+μ-loop rows counts needs payloads partners turns marks bytes calls₀ refs₀ register₀ tape₀ table₀ channel₀ input output₀ budget
+    depth₀ saved₀ pointer₀ position₀ counted₀ lanes₀ functions₀ first₀ waiting₀ taken₀ written₀ left₀
+    calls refs register tape table channel output depth saved pointer position counted lanes functions first waiting taken written left = left
+
+returns : tie.Need-returns Inv-loop μ-loop
+returns c =
+    sym (run-done _ _ _ _ _ (over-halted _ _ (c .if1 .taken)))
+
+loop-holds : tie.Need-loop-holds Inv-loop μ-loop
+loop-holds c =
+    let s = c .before .before .before .before .before .before .before .before .before .before .before .before .before .before .before in
+    open-at-first _ (s .pre) (c .if1 .left)
 
 returns-2 : tie.Need-returns-2 Inv-loop μ-loop
-returns-2 c = all-spent (c .before .before .before .loop .inv) (sym (c .before .before .over .ensures) ∙ c .before .if1 .left) (c .if2 .taken)
-
-step-requires : tie.Need-step-requires Inv-loop μ-loop
-step-requires c κs =
-    let w = c .before .before .before .before .before .before .before in
-    let l = w .before .before in
-    step-asks _ _ _ _ (l .before .before .before .loop .inv .ready) (sym (l .before .before .over .ensures) ∙ l .before .if1 .left) _ (w .wide-short .ensures .0)
+returns-2 c =
+    let l = c .before .before in
+    rw (c .gather .ensures) (from-first _ _ _ _ _ (l .before .if1 .left) (ended (l .loop .inv) (over-past _ _ refl (c .before .if2 .taken))))
 
 returns-3 : tie.Need-returns-3 Inv-loop μ-loop
 returns-3 c =
-    let d = c .before .before .before .before .before .before .before .before .before .before .before .before in
-    let l = d .before .before .before .before .before .before .before .before .before .before in
-    let i = l .before .before .before .loop .inv in
-    refused-at i (sym (l .before .before .over .ensures) ∙ l .before .if1 .left) (l .if2 .left) _ (stepped-as _ _ _ _ (i .ready) _ (d .step .ensures)) (c .if3 .taken)
+    let l = c .before .before .before in
+    rw (c .gather2 .ensures)
+    (from-first _ _ _ _ _ (l .before .if1 .left) (all-spent (l .loop .inv) (over-before _ _ refl (c .before .before .if2 .left)) (c .before .if3 .taken)))
 
-add-steps : tie.Need-add-steps Inv-loop μ-loop
-add-steps c =
-    let l = c .before .before .before .before .before .before .before .before .before .before .before .before .before .before .before .before .before .before .before .before .before .before in
-    let a = l .before .before .before .before .before .before .before .before .before .before .before .before .before .before .before .before .before .before in
-    omega (arith, a .fits .budget, l .if2 .left, l .before .before .before .loop .inv .within)
+step-requires : tie.Need-step-requires Inv-loop μ-loop
+step-requires c κs =
+    let z′ = c .before .before .before .before .before .before .before .before .before .before .before .before .before .before .before in
+    let z = z′ .before .before .before .before in
+    step-asks _ _ _ _ (z .before .loop .inv .ready) (over-before _ _ refl (z .if2 .left))
 
-loop-less : tie.Need-loop-less Inv-loop μ-loop
-loop-less c =
-    let l = c .before .before .before .before .before .before .before .before .before .before .before .before .before .before .before .before .before .before .before .before .before .before in
-    omega (arith, l .if2 .left, l .before .before .before .loop .inv .within)
+returns-4 : tie.Need-returns-4 Inv-loop μ-loop
+returns-4 c =
+    let d = c .before .before .before .before .before .before .before .before .before .before .before .before .before in
+    let z′ = d .before .before .before .before .before .before .before .before .before .before .before .before .before .before .before in
+    let z = z′ .before .before .before .before in
+    let l = z .before .before in
+    rw (c .gather3 .ensures)
+    (from-first _ _ _ _ _ (l .before .if1 .left)
+    (halted-at (l .loop .inv) (over-before _ _ refl (z .before .if2 .left)) (z .if3 .left) _
+    (as-answered (halted _ _ (c .before .if5 .taken)) (d .step .ensures)) refl (over-halted _ _ refl)))
+
+returns-5 : tie.Need-returns-5 Inv-loop μ-loop
+returns-5 c =
+    let d = c .before .before .before .before .before .before .before .before .before .before .before .before .before in
+    let z′ = d .before .before .before .before .before .before .before .before .before .before .before .before .before .before .before in
+    let z = z′ .before .before .before .before in
+    let l = z .before .before in
+    rw (c .gather4 .ensures)
+    (from-first _ _ _ _ _ (l .before .if1 .left)
+    (refused-at (l .loop .inv) (over-before _ _ refl (z .before .if2 .left)) (z .if3 .left) _
+    (as-answered (refused _ _ (c .before .if5 .left)) (d .step .ensures)) (c .before .before .if4 .taken)))
 
 loop-again : tie.Need-loop-again Inv-loop μ-loop
 loop-again c =
-    let w = c .before .before .before in
-    let h = w .before .before in
+    let o = c .before .before in
+    let h = o .before .before in
     let n = h .before .before in
     let t = n .before .before in
     let g = t .before .before in
     let d = g .before in
-    let l = d .before .before .before .before .before .before .before .before .before .before in
-    let i = l .before .before .before .loop .inv in
-    let k = l .before .before .before .before .before .before .before .before .before .before in
+    let z′ = d .before .before .before .before .before .before .before .before .before .before .before .before .before .before .before in
+    let z = z′ .before .before .before .before in
+    let l = z .before .before in
+    let k = l .before .before .before .before .before .before .before .before in
     let b = bytes-of (k .before .before .before .before .before .before .before .before .args .bytes .now) (k .shared-slice-known8 .given) in
-    onward i (sym (l .before .before .over .ensures) ∙ l .before .if1 .left) (l .if2 .left) _ (stepped-as _ _ _ _ (i .ready) _ (d .step .ensures)) b (c .if3 .left)
-    (g .register .given) (t .tape .given) (n .table .given) (h .channel .given) (w .output .given)
+    onward (l .loop .inv) (over-before _ _ refl (z .before .if2 .left)) (z .if3 .left) _ (as-answered (went _ _ (c .if4 .left)) (d .step .ensures)) b refl
+    (g .register .given) (t .tape .given) (n .table .given) (h .channel .given) (o .output .given)
 
 pub go-spec : {M : Type 1} → statement M
 go-spec =
@@ -65,30 +91,102 @@ go-spec =
     (tie.spec
     Inv-loop
     μ-loop
-    (λ c. begin _ (c .before .before .before .before .before .before .before .before .before .before .before .before .before .before .pre))
+    returns
+    loop-holds
+    (λ c. c .before .loop .inv .within)
     (λ c κs. search needs)
     (λ c. c .before .before .loop .inv .register)
     (λ c. c .before .before .loop .inv .tape)
     (λ c. c .before .before .loop .inv .table)
     (λ c. c .before .before .loop .inv .channel)
     (λ c. c .before .before .loop .inv .output)
-    (λ c. ended (c .before .before .loop .inv) (sym (c .before .over .ensures) ∙ c .if1 .taken))
+    returns-2
+    (λ c. c .before .before .loop .inv .within)
+    (λ c κs. search needs)
     (λ c. c .before .before .before .loop .inv .register)
     (λ c. c .before .before .before .loop .inv .tape)
     (λ c. c .before .before .before .loop .inv .table)
     (λ c. c .before .before .before .loop .inv .channel)
     (λ c. c .before .before .before .loop .inv .output)
-    returns-2
-    (λ c. let o = op-here _ _ _ _ (c .before .before .before .loop .inv .ready) (sym (c .before .before .over .ensures) ∙ c .before .if1 .left) in omega (arith, o .0, o .1))
-    (λ c. let l = c .before in partner-here _ _ _ _ (l .before .before .before .loop .inv .ready) (sym (l .before .before .over .ensures) ∙ l .before .if1 .left))
-    (λ c κs. search needs)
-    step-requires
-    (λ c. let d = c .before .before .before .before .before .before .before .before .before .before .before in d .register .given ∙ d .before .before .before .before .before .before .before .before .before .before .before .before .before .before .loop .inv .register)
-    (λ c. let d = c .before .before .before .before .before .before .before .before .before in d .tape .given ∙ d .before .before .before .before .before .before .before .before .before .before .before .before .before .before .before .before .loop .inv .tape)
-    (λ c. let d = c .before .before .before .before .before .before .before in d .table .given ∙ d .before .before .before .before .before .before .before .before .before .before .before .before .before .before .before .before .before .before .loop .inv .table)
-    (λ c. let d = c .before .before .before .before .before in d .channel .given ∙ d .before .before .before .before .before .before .before .before .before .before .before .before .before .before .before .before .before .before .before .before .loop .inv .channel)
-    (λ c. let d = c .before .before .before in d .output .given ∙ d .before .before .before .before .before .before .before .before .before .before .before .before .before .before .before .before .before .before .before .before .before .before .loop .inv .output)
     returns-3
-    add-steps
-    loop-less
+    step-requires
+    (λ c.
+    let u′ = c .before .before .before .before .before .before .before .before .before .before .before .before .before .before .before in
+    let u′′ = u′ .before .before .before .before .before .before .before .before .before .before .before .before .before .before .before in
+    let u = u′′ .before .before .before in
+    u .loop .inv .within)
+    (λ c.
+    let z′ = c .before .before .before .before .before .before .before .before .before .before .before .before .before .before .before in
+    let z′′ = z′ .before .before .before .before .before .before .before .before .before .before .before .before .before .before .before in
+    let z = z′′ .before in
+    let u′ = z .before .before .before .before .before .before .before .before .before .before .before .before .before .before .before in
+    let u = u′ .before .before .before in
+    omega (arith, u .fits .budget, z .if3 .left, z .before .before .loop .inv .within))
+    (λ c κs. search needs)
+    (λ c.
+    let d = c .before .before .before .before .before .before .before .before .before .before .before .before in
+    let u′ = d .before .before .before .before .before .before .before .before .before .before .before .before .before .before .before in
+    let u = u′ .before .before .before .before .before .before .before in
+    d .register .given ∙ u .loop .inv .register)
+    (λ c.
+    let d = c .before .before .before .before .before .before .before .before .before .before in
+    let u′ = d .before .before .before .before .before .before .before .before .before .before .before .before .before .before .before in
+    let u = u′ .before .before .before .before .before .before .before .before .before in
+    d .tape .given ∙ u .loop .inv .tape)
+    (λ c.
+    let d = c .before .before .before .before .before .before .before .before in
+    let u′ = d .before .before .before .before .before .before .before .before .before .before .before .before .before .before .before in
+    let u = u′ .before .before .before .before .before .before .before .before .before .before .before in
+    d .table .given ∙ u .loop .inv .table)
+    (λ c.
+    let d = c .before .before .before .before .before .before in
+    let u′ = d .before .before .before .before .before .before .before .before .before .before .before .before .before .before .before in
+    let u = u′ .before .before .before .before .before .before .before .before .before .before .before .before .before in
+    d .channel .given ∙ u .loop .inv .channel)
+    (λ c.
+    let d = c .before .before .before .before in
+    let u′ = d .before .before .before .before .before .before .before .before .before .before .before .before .before .before .before in
+    let u = u′ .before .before .before .before .before .before .before .before .before .before .before .before .before .before .before in
+    d .output .given ∙ u .loop .inv .output)
+    returns-4
+    (λ c.
+    let u′ = c .before .before .before .before .before .before .before .before .before .before .before .before .before .before .before in
+    let u′′ = u′ .before .before .before .before .before .before .before .before .before .before .before .before .before .before .before in
+    let u = u′′ .before .before .before in
+    u .loop .inv .within)
+    (λ c κs. search needs)
+    (λ c.
+    let d = c .before .before .before .before .before .before .before .before .before .before .before .before in
+    let u′ = d .before .before .before .before .before .before .before .before .before .before .before .before .before .before .before in
+    let u = u′ .before .before .before .before .before .before .before in
+    d .register .given ∙ u .loop .inv .register)
+    (λ c.
+    let d = c .before .before .before .before .before .before .before .before .before .before in
+    let u′ = d .before .before .before .before .before .before .before .before .before .before .before .before .before .before .before in
+    let u = u′ .before .before .before .before .before .before .before .before .before in
+    d .tape .given ∙ u .loop .inv .tape)
+    (λ c.
+    let d = c .before .before .before .before .before .before .before .before in
+    let u′ = d .before .before .before .before .before .before .before .before .before .before .before .before .before .before .before in
+    let u = u′ .before .before .before .before .before .before .before .before .before .before .before in
+    d .table .given ∙ u .loop .inv .table)
+    (λ c.
+    let d = c .before .before .before .before .before .before in
+    let u′ = d .before .before .before .before .before .before .before .before .before .before .before .before .before .before .before in
+    let u = u′ .before .before .before .before .before .before .before .before .before .before .before .before .before in
+    d .channel .given ∙ u .loop .inv .channel)
+    (λ c.
+    let d = c .before .before .before .before in
+    let u′ = d .before .before .before .before .before .before .before .before .before .before .before .before .before .before .before in
+    let u = u′ .before .before .before .before .before .before .before .before .before .before .before .before .before .before .before in
+    d .output .given ∙ u .loop .inv .output)
+    returns-5
+    (λ c.
+    let z′ = c .before .before .before .before .before .before .before .before .before .before .before .before .before .before .before in
+    let z = z′ .before .before .before .before .before .before .before .before .before .before .before .before .before .before .before .if3 .left in
+    omega (arith, z))
+    (λ c.
+    let z′ = c .before .before .before .before .before .before .before .before .before .before .before .before .before .before .before in
+    let z = z′ .before .before .before .before .before .before .before .before .before .before .before .before .before .before .before .if3 .left in
+    omega (arith, z))
     loop-again)

@@ -1,0 +1,2 @@
+-- The laws of the ops that steer.
+pub mod Partners

@@ -1,2 +1,0 @@
--- The families of the table of kinds.
-pub mod Families

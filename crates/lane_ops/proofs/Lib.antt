@@ -1,0 +1,2 @@
+-- The arms of the rows.
+pub mod Rows
