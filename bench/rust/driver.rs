@@ -134,7 +134,9 @@ fn agreed(c: &Case, lent: &mut Lent) -> u64 {
     steps
 }
 
-/// Nanoseconds of the Rust's own run: the program is built outside, and the interpreter is new each time.
+/// Nanoseconds of the Rust's own run: the program is built outside, and the interpreter is new each time. It is a function of its own in the program,
+/// so that `bench/run counts` can find it.
+#[inline(never)]
 fn rust_run(code: &StandardProgram, inputs: &[i64]) -> (f64, TestingDevice) {
     let vm = StandardInterpreter::new(TestingDevice::new_raw(inputs.to_vec()));
     let start = Instant::now();
