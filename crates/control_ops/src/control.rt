@@ -1,7 +1,7 @@
 // The ops that steer: Function, Call, Return, While, If, Else, End. Each stands at the place `at` and is lent the position, which it sets where it
 // jumps; a stored place is read only then. A contract is over any numbers p of a machine, with those that are lent among them.
 ghost use mathlib.Core.Path.{_≡_};
-ghost use Prim.Native.Nat.{_+_, _≤_, _<_};
+ghost use Prim.Native.Nat.{_≤_};
 ghost use lib.ListN.{length, take};
 ghost use Rattle.basics.specs.Limits as limit;
 ghost use Rattle.kind_table.specs.Rows as kind;

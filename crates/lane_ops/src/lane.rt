@@ -70,8 +70,8 @@ fn alone(k: u8, n: usize, register: &mut [u64]) -> u32
     DONE
 }
 
-// The op of row k, a cell op or a lane-only one. Each row has its arm, so that the loops have a constant row; the match of the step goes on in this one.
-// As there, what is below 64 and no row has an answer of its own.
+// The op of row k, a cell op or a lane-only one. Each row has its arm, so that the loops have a constant row. What is below 64 and no row has arms too,
+// and the last of them another answer: with fewer arms, or with two alike, the compiler puts a test before the jump.
 pub fn lane_op(k: u8, n: usize, at: usize, l: usize, register: &mut [u64], tape: &[u64]) -> u32
     requires { ⌜ (k < 62) × (n ≤ limit.lanes) × (limit.lanes ≤ length (now register)) ⌝ }
     ensures { λ r. ⌜ LaneDone k n at l r (now (register .entry)) (now (tape .entry)) (now (register .exit)) ⌝ }

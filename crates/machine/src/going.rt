@@ -1,9 +1,8 @@
 // The steps of a patch that is read: one inner step after the other, until they end.
 ghost use mathlib.Core.Path.{_≡_};
-ghost use Prim.Native.Nat.{ℕ};
 ghost use Rattle.machine_step.specs.Held.{held, code};
 ghost use Rattle.bridge.specs.Run.{ran, runOf};
-ghost use Rattle.machine.specs.Ready.{ReadyToRun, overOf};
+ghost use Rattle.machine.specs.Ready.{ReadyToRun};
 use answers::run::Answer;
 use machine_numbers::numbers::DONE;
 use machine_numbers::numbers::HALTED;

@@ -16,14 +16,14 @@ use Rattle.kind_table.specs.Kinds.{familyOf}
 use Rattle.ops.specs.Decode.{modeIn}
 use Rattle.ops.specs.declared.op.Mode.{Mode}
 use Rattle.machine_numbers.specs.declared.numbers.Numbers.{Numbers}
-use Rattle.machine_numbers.specs.Numbers.{atPosition, atPointer, ofLength, ofLanes, ofDepth, ofSaved, ofFunctions, ofRing, ofTaken, ofWritten, next, answered, left, onward, OpAnswer, OneList, oneList, Steered, steered, Swapped, swapped, taped}
+use Rattle.machine_numbers.specs.Numbers.{atPosition, atPointer, ofLength, ofLanes, ofDepth, ofSaved, ofFunctions, ofRing, ofTaken, ofWritten, next, answered, left, onward, OpAnswer, OneList, oneList, steered, swapped, taped}
 use Rattle.control_ops.specs.CanSteer.{Steers, CanCall}
 use Rattle.control_ops.specs.Control.{functionOf, callOf, retOf, whileOf, ifOf, elsesOf, endsOf, inTable, controlOf}
 use Rattle.tape_ops.specs.Tape.{setOf, storeOf, loadOf, moveOf, whereOf, derefOf, referOf, allocOf, inRegister, inTape, inRefs, tapeOf}
 use Rattle.lane_ops.specs.Lane.{swapOf, offsetOf, LaneDone}
 use Rattle.lane_ops.proofs.Rows.{isLane}
 use Rattle.device_ops.specs.Device.{gettingOf, puttingOf, peekingOf, pokingOf, inLanes, inChannel, inOutput, deviceOf}
-use Rattle.machine_step.specs.Held.{Held, After, after, steering, laning, swapping, taping, telling}
+use Rattle.machine_step.specs.Held.{Held, after, steering, laning, swapping, taping, telling}
 use Rattle.machine_step.specs.Step.{opOf}
 use Rattle.machine_step.specs.CanStep.{CanOp}
 use Rattle.machine_numbers.proofs.Families.{other-family, row-is}

@@ -20,8 +20,8 @@ use machine_numbers::numbers::Numbers;
 use ops::op::mode_at;
 use tape_ops::tape;
 
-// The op at the position: of row k, it counts n and its payload is at byte a. Each row has its arm, so that the way to an op is one jump. What is below
-// 64 and no row has arms too, the last with an answer of its own: else the jump would need a test before it.
+// The op at the position: of row k, it counts n and its payload is at byte a. Each row has its arm, those of the lane ops in `lane_op`, whose match goes
+// on where this one ends; of the two the compiler makes one jump.
 fn op(
     k: u8,
     n: usize,

@@ -62,7 +62,7 @@ pub fn set(n: usize, a: usize, lanes: &mut usize, register: &mut [u64], bytes: &
     DONE
 }
 
-// One lane, and the lane of an op that counts none, are told apart first: no loop is made ready for them.
+// Where one lane is asked for, no loop is made ready; so for Store.
 pub fn load(
     n: usize,
     at: usize,
