@@ -38,6 +38,8 @@ def imports(crate, text):
     """The names that a file may cite, each with the file of its definition; and the names that stand for a whole file."""
     names, files = {}, {}
     for owner, path, listed, short in re.findall(r"^ghost use Rattle·(\w+)(?:·specs)?\.([\w.]+?)(?:\.\{([^}]*)\}| as (\w+));", text, re.M):
+        if ".declared." in path:
+            continue  # a struct of the code, which is no definition
         file = ("" if owner == crate else "crates/%s/" % owner) + path.replace(".", "/") + ".antt"
         file = file if (ROOT / "crates" / owner).is_dir() else "`%s`" % owner
         names.update({name.strip(): file for name in listed.split(",") if name.strip()})
