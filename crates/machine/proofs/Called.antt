@@ -25,7 +25,7 @@ use Rattle.states.specs.Zeros.{zeroed}
 use Rattle.states.specs.Formed.{hasRoom, inLimits, inPlace, allOf, callsBelow, refsWithin, namesFrom, tableNames, isFormed}
 use Rattle.states.proofs.WellFormed.{formed-fits}
 use Rattle.machine.specs.Fresh.{freshOf}
-use Rattle.machine.specs.Ready.{IsLoaded, IsRead, ReadyToRun}
+use Rattle.machine_run.specs.Ready.{IsLoaded, IsRead, ReadyToRun}
 use Rattle.machine.specs.Calls.{lent, runCall, freshOn, freshCall}
 use Rattle.machine.specs.declared.machine.Machine.{Machine}
 

@@ -17,7 +17,7 @@ use Rattle.partners.specs.declared.patch.Patch.{Patch}
 use Rattle.partners.proofs.Lent.{few-functions, start-many, start-fits, end-long, many-partners, many-turns}
 use Rattle.machine_step.specs.Held.{Held, code}
 use Rattle.bridge.specs.Run.{ran}
-use Rattle.machine.specs.Ready.{IsRead}
+use Rattle.machine_run.specs.Ready.{IsRead}
 use Rattle.machine.specs.Calls.{runCall}
 use Rattle.machine.proofs.Called.{run-bad, is-loaded, is-read}
 

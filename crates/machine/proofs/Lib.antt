@@ -1,5 +1,4 @@
 -- The laws behind the machine's calls, in reading order.
-pub mod RunLoop
 pub mod Called
 pub mod HandedOn
 pub mod StepIsARun

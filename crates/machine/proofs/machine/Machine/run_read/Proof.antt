@@ -2,7 +2,7 @@
 use mathlib.Core.Path.{_∙_}
 use Prim.Native.Nat.{ℕ}
 use borrow.Author.Needs.{needs, length-unmapped}
-use Rattle.machine.proofs.RunLoop.{bytes-of}
+use Rattle.machine_run.proofs.RunLoop.{bytes-of}
 use Rattle.machine.proofs.Called.{few-rows, run-unformed, run-going, run-called}
 use Rattle.machine.proofs.machine.Machine.run_read.Statement.{statement}
 use Rattle.machine.proofs.machine.Machine.run_read.Tie as tie

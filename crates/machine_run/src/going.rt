@@ -2,7 +2,7 @@
 ghost use mathlib.Core.Path.{_≡_};
 ghost use Rattle.machine_step.specs.Held.{held, code};
 ghost use Rattle.bridge.specs.Run.{ran, runOf};
-ghost use Rattle.machine.specs.Ready.{ReadyToRun};
+ghost use Rattle.machine_run.specs.Ready.{ReadyToRun};
 use answers::run::Answer;
 use machine_numbers::numbers::DONE;
 use machine_numbers::numbers::HALTED;

@@ -1,12 +1,12 @@
--- `machine::going::go` meets its contract. Assumes nothing.
+-- `machine_run::going::go` meets its contract. Assumes nothing.
 use mathlib.Core.Path.{_∙_, refl, sym}
 use native.Mathlib.Omega.{arith}
 use borrow.Author.Needs.{needs}
 use Rattle.machine_numbers.specs.Numbers.{running}
 use Rattle.machine_step.specs.Held.{held, code}
-use Rattle.machine.proofs.RunLoop.{run-done, step-asks, bytes-of, Running, ended, all-spent, refused-at, halted-at, onward, as-answered, went, halted, refused, open-at-first, from-first, over-halted, over-past, over-before}
-use Rattle.machine.proofs.going.go.Statement.{statement}
-use Rattle.machine.proofs.going.go.Tie as tie
+use Rattle.machine_run.proofs.RunLoop.{run-done, step-asks, bytes-of, Running, ended, all-spent, refused-at, halted-at, onward, as-answered, went, halted, refused, open-at-first, from-first, over-halted, over-past, over-before}
+use Rattle.machine_run.proofs.going.go.Statement.{statement}
+use Rattle.machine_run.proofs.going.go.Tie as tie
 
 abbrev Inv-loop : tie.InvT-loop
 Inv-loop rows counts needs payloads partners turns marks bytes calls₀ refs₀ register₀ tape₀ table₀ channel₀ input output₀ budget

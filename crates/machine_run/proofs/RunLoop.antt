@@ -34,7 +34,7 @@ use Rattle.bridge.proofs.Steps.{step-is}
 use Rattle.bridge.proofs.Real.{Real, step-real}
 use Rattle.bridge.proofs.Real.Real.{goes, stops}
 use Rattle.bridge.proofs.Runs.{step-fits}
-use Rattle.machine.specs.Ready.{ReadyToRun, overOf}
+use Rattle.machine_run.specs.Ready.{ReadyToRun, overOf}
 
 -- ---- the four ways through a turn
 

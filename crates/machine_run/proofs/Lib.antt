@@ -1,0 +1,2 @@
+-- The laws of the loop.
+pub mod RunLoop
