@@ -24,6 +24,8 @@ from model01 import AND, CALL, DEREF, DIV, GET, OR, PEEK, REM
 AGREE = "agree with the Rust to the end"
 PORT = "answers of the port alone (file, 37, 40, check)"
 ROOM = "beyond the judge's room"
+NAMED = "lanes that the Rust's panic names (21, 22)"
+UNNAMED = "lanes of the port alone (21, 22, 23)"
 OUTSIDE = {"agree": AGREE, "port": PORT, "utf8": "comment bytes", "dirty": "lent cells not zero", "big": ROOM}
 AT_THE_OP = {
     (20, "hang"): "endless search", (21, "panic"): "missing lane", (22, "panic"): "cell beyond the length", (23, "went"): "lent tape",
@@ -64,11 +66,11 @@ def build():
 
 
 def judged(judge, data, *flags, timeout=None):
-    """The judge's verdict on each case: sort, number, verdict, kind, NaNs."""
+    """The judge's verdict on each case: sort, number, verdict, kind, NaNs, and whether the Rust's panic names the lane."""
     told = subprocess.run([judge, *flags], input=data, stdout=subprocess.PIPE, check=True, timeout=timeout).stdout.decode()
     for line in told.splitlines():
-        sort, number, verdict, kind, nans = line.split()
-        yield int(sort), int(number), verdict, None if kind == "-" else int(kind), int(nans)
+        sort, number, verdict, kind, nans, named = line.split()
+        yield int(sort), int(number), verdict, None if kind == "-" else int(kind), int(nans), named == "1"
 
 
 def tally(judge, cases):
@@ -77,7 +79,7 @@ def tally(judge, cases):
     told = list(judged(judge, b"".join(cases)))
     if len(told) != len(cases):
         sys.exit("expect.py: %d verdicts for %d cases" % (len(told), len(cases)))
-    for i, (sort, number, verdict, kind, nans) in enumerate(told):
+    for i, (sort, number, verdict, kind, nans, named) in enumerate(told):
         found = name(sort, number, verdict, kind)
         if found is None:
             wrong.append((i, verdict))
@@ -85,6 +87,9 @@ def tally(judge, cases):
             counts[found] = counts.get(found, 0) + 1
         if nans:
             counts["NaN bits"] = counts.get("NaN bits", 0) + 1
+        if number in (21, 22, 23):
+            lane = NAMED if named else UNNAMED
+            counts[lane] = counts.get(lane, 0) + 1
     return counts, wrong
 
 
@@ -100,7 +105,7 @@ def smallest(judge):
     data = [lists.write(c) for c in generate.answered(c for _, _, c in rows)]
     bad = 0
     for (row, wanted, c), case in zip(rows, data):
-        sort, number, verdict, kind, nans = next(judged(judge, case))
+        sort, number, verdict, kind = next(judged(judge, case))[:4]
         met = verdict == wanted and (name(sort, number, verdict, kind) == row or verdict in ("agree", "big", "port"))
         if verdict == "hang":
             try:

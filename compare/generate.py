@@ -863,6 +863,81 @@ def partners():
             yield fresh(op(SET, lane) + b"".join(op(k) + op(FREE) for k in text), budget=30)
 
 
+# ---- which lane was missing
+
+def laned(data, tape=16, lane=6, cell=0, **numbers):
+    """A state with these numbers, else with every lane and 30,000 cells; what is in lane 0, and in the cell at the pointer."""
+    c = state(data, tape=tape)
+    c.machine.counted = 30_000
+    for name, v in numbers.items():
+        setattr(c.machine, name, v)
+    c.register[:3] = [lane, WORD - 8, 5]
+    if cell:
+        c.tape[c.machine.pointer] = cell
+    return c
+
+
+def missing():
+    """Refusals 21, 22 and 23 with the first lane that could not be had, and answers that carry lane 0 where a wrong one would show (02, ask 3)."""
+    add, swap = model01.ADD, model01.SWAP
+    # of 400 lanes the first, the second or the last is the first that is missing; the second by a step
+    for lane, call in ((0, lambda c: c), (1, stepped), (399, lambda c: c)):
+        for kind in (add, model01.MULF, swap, STORE, model01.INC, OFFSET):
+            yield call(laned(op(kind, *((9,) if kind == OFFSET else ()), 400), lanes=lane, tape=500))
+        for kind in (add, model01.SUBF, swap):
+            yield call(laned(op(kind, 400), tape=30_500, pointer=30_000 - lane))
+        for kind in (add, model01.DIVF, swap, LOAD, STORE):
+            yield call(laned(op(kind, 400), tape=500, pointer=500 - lane))
+    # lengths and lent tapes of every order, the pointer before, at and beyond their ends; of n = 0 nothing is missing
+    for counted, tape, pointer, n in ((30_000, 30_020, 29_990, 20), (30_000, 30_000, 29_990, 20), (30_000, 29_995, 29_990, 20),
+                                      (30_000, 29_000, 29_990, 20), (30_000, 30_020, 30_003, 1), (30_000, 8, 1_000_000_000, 2), (0, 30, 0, 3),
+                                      (0, 30, 7, 1), (30_000, 8, 5, 4), (30_000, 8, 11, 1), (30_000, 0, 0, 1), (100_000, 30_000, 30_001, 2),
+                                      (30_000, 30_020, 28_977, 1024), (30_000, 8, 7, 0), (0, 8, 9, 0)):
+        yield laned(op(add, n), counted=counted, tape=tape, pointer=pointer)
+    # a register that is too short comes first, whatever cells are missing too; one lane that is there is enough for one
+    for lanes, counted, pointer, n in ((2, 30_000, 29_999, 5), (2, 0, 0, 5), (7, 30_000, 13, 8), (1023, 30_000, 0, 1024), (0, 0, 4, 1),
+                                       (1, 30_000, 0, 1)):
+        yield laned(op(model01.SUB, n), lanes=lanes, counted=counted, pointer=pointer)
+    # an And that looks at the cell, and one that the lane decides; a Div beside a cell that is zero
+    for kind, pointer in ((AND, 29_998), (AND, 29_996), (model01.OR, 29_997), (model01.DIV, 29_998)):
+        yield laned(op(kind, 5), tape=30_000, pointer=pointer)
+    c = laned(op(model01.DIV, 6), lanes=2)
+    c.tape[:5] = [3, 4, 0, 0, 2]
+    yield c
+    # Load and Store count to the lent tape, also where the length has still to grow; Deref has no lane but the first
+    for kind, counted, pointer in ((LOAD, 0, 3), (STORE, 0, 3), (LOAD, 30_000, 1_000_000), (STORE, 30_000, 29_999)):
+        yield laned(op(kind, 20), counted=counted, pointer=pointer)
+    for counted, pointer, call in ((30_000, 16, lambda c: c), (30_000, 20_000, lambda c: c), (30_000, 17, stepped), (0, 17, stepped)):
+        yield call(laned(op(DEREF), counted=counted, pointer=pointer))
+    # one lane is needed, and there is none
+    for kind, *held in ((CALL,), (WHILE,), (IF,), (END,), (WHERE,), (ALLOC,), (POKE,), (PEEK,), (GET, 1), (PUT, 1)):
+        yield fresh(op(LOAD, 0) + op(kind, *held) + op(END), inputs=(49,))
+    # after steps that stand
+    loop = op(WHILE) + op(STORE, 2) + op(MOVE, 1) + op(END)
+    for data, tape in ((op(SET, 1, 2, 3) + op(STORE, 3) + op(MOVE, 2) + op(add, 5), 8), (op(LOAD, 399) + op(model01.NEG, 400), 500),
+                       (op(LOAD, 8) + op(MOVE, 99_998) + op(add, 3), 8), (op(ALLOC) + op(MOVE, 29_998) + op(SET, 1, 2, 3) + op(swap, 3), 30_010),
+                       (op(LOAD, 8) + op(MOVE, 6) + op(SETF, *FLOATS[2:5]) + op(model01.ADDF, 3), 8), (op(SET, 1, 1) + loop, 5)):
+        yield fresh(data, tape=tape)
+    # lane 0: the budget is spent before an op that would be refused, a step was made, the run is over
+    for lanes, pointer in ((399, 0), (1024, 29_601), (1024, 9)):
+        c = laned(op(FREE) + op(add, 400), lanes=lanes, pointer=pointer)
+        for budget in (1, 2):
+            c = copy.copy(c)
+            c.budget = budget
+            yield c
+        yield stepped(copy.copy(c))
+    for numbers in (dict(position=1), dict(halted=1)):
+        for call in (lambda c: c, stepped):
+            yield call(laned(op(add, 400), lanes=7, pointer=9, **numbers))
+    # lane 0: refused for another reason
+    for data, said in ((op(IF), dict(lane=0)), (op(FUNCTION), {}), (op(MOVE, -4), {}), (op(MOVE, 1_000_000_000), {}),
+                       (op(DEREF), dict(cell=1_000_000_001)), (op(DEREF), dict(cell=WORD)), (op(REFER), {}), (op(CALL), dict(lane=WORD)),
+                       (op(CALL), {}), (op(ALLOC), dict(lane=WORD)), (op(DEREF), dict(refs=[0] * 256)), (op(PEEK), {}),
+                       (op(POKE), dict(waiting=256)), (op(GET, 0), {}), (op(PUT, 0), dict(written=4)), (op(FREE), dict(position=2)),
+                       (op(FREE)[:5], {})):
+        yield laned(data, lanes=7, pointer=3, **said)
+
+
 # ---- 01's own cases
 
 def paper():
@@ -976,7 +1051,7 @@ def main(args):
     if args[:1] == ["exhaustive"]:
         cases = exhaustive()
     elif args[:1] == ["boundary"]:
-        cases = itertools.chain(paper(), boundary(), partners())
+        cases = itertools.chain(paper(), boundary(), partners(), missing())
     elif args[:1] == ["smallest"]:
         cases = (c for _, _, c in smallest())
     elif args[:1] == ["random"] and len(args) == 3:

@@ -63,13 +63,14 @@ class Case:
 
 
 class Answer:
-    """number and place; steps, machine and slices of a run; bytes of a join or flattening; bodies of a flattening."""
+    """number and place; steps, lane, machine and slices of a run; bytes of a join or flattening; bodies of a flattening."""
 
-    __slots__ = ["number", "place", "steps", "machine", "written", "bodies"] + SLICES
+    __slots__ = ["number", "place", "steps", "lane", "machine", "written", "bodies"] + SLICES
 
     def __init__(self, number, place):
         self.number = number
         self.place = place
+        self.lane = 0
 
 
 u32 = struct.Struct("<I").pack
@@ -98,7 +99,7 @@ def write(case):
             out += [u32(len(values)), sparse(values)]
         if case.sort in FROM_STATE:
             out.append(write_machine(case.machine))
-        out += [struct.pack("<3I", a.number, a.steps, a.place), write_machine(a.machine)]
+        out += [struct.pack("<4I", a.number, a.steps, a.place, a.lane), write_machine(a.machine)]
         out += [sparse(getattr(a, name)) for name in SLICES]
     elif case.sort in (JOIN, FLATTEN):
         out += [u32(case.room), bytes([case.fill])]
@@ -166,9 +167,10 @@ def read(data):
                 setattr(c, name, r.sparse(r.u32()))
             if sort in FROM_STATE:
                 c.machine = r.machine()
-            number, steps, place = r.numbers("I", 3)
+            number, steps, place, lane = r.numbers("I", 4)
             a = Answer(number, place)
             a.steps = steps
+            a.lane = lane
             a.machine = r.machine()
             for name in SLICES:
                 setattr(a, name, r.sparse(len(getattr(c, name))))
@@ -262,7 +264,7 @@ def show(c):
         if c.sort in FROM_STATE:
             out.append("  from: " + machine_words(c.machine))
         if a:
-            out.append("  expected: number %d, %d steps, place %d" % (a.number, a.steps, a.place))
+            out.append("  expected: number %d, %d steps, place %d, lane %d" % (a.number, a.steps, a.place, a.lane))
             out.append("    " + machine_words(a.machine))
             out += ["    %s %s" % (name, slice_words(getattr(a, name))) for name in SLICES]
     elif c.sort in (JOIN, FLATTEN):

@@ -433,6 +433,20 @@ def step(ops, inputs, m, s):
     return 0
 
 
+def missing_lane(number, m, s):
+    """02, ask 3: "the first lane that could not be had", of a step's number and the state that it leaves, which a refusal has not changed."""
+    # "for 21 the register's length"
+    if number == 21:
+        return m.lanes
+    # "for 22 and 23 the number of cells from the pointer to the end of the counted length or of the lent tape, 0 if none"
+    if number == 22:
+        return max(0, m.counted - m.pointer)
+    if number == 23:
+        return max(0, len(s.tape) - m.pointer)
+    # "All other answers carry lane 0."
+    return 0
+
+
 def run(c):
     """A run from a state, a step, which is a run of one step, or the fresh run."""
     a = Answer(0, 0)
@@ -458,6 +472,7 @@ def run(c):
             a.number = 0 if c.sort == STEP else 50
             return a
         a.number = step(ops, c.inputs, m, a)
+        a.lane = missing_lane(a.number, m, a)
         if a.number:
             return a
         a.steps += 1

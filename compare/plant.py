@@ -12,6 +12,7 @@ sys.path.insert(0, os.path.join(HERE, "..", "tools"))
 import command
 import lists
 
+LANE = "        a.lane = missing_lane(a.number, m, a)\n"
 # what is wrong, the line of model01.py that says it right, and the wrong one
 READINGS = [
     ("End goes back to test the While again", "                m.position = partner\n", "                m.position = partner - 1\n"),
@@ -84,6 +85,25 @@ READINGS = [
      "    main, bodies = [], []\n    if c.room < len(c.patch):\n        a.number, a.place = 40, 0\n        return a\n"),
     ("40 goes by the result's length", "    if c.room < len(c.patch):\n        a.number, a.place = 40, 0\n        return a\n    done = []\n",
      "    done = []\n"),
+    ("22 counts to the end of the lent tape", "max(0, m.counted - m.pointer)", "max(0, len(s.tape) - m.pointer)"),
+    ("22 counts to the lesser of length and tape", "max(0, m.counted - m.pointer)", "max(0, min(m.counted, len(s.tape)) - m.pointer)"),
+    ("22 beyond the length gives the way back to it", "max(0, m.counted - m.pointer)", "abs(m.counted - m.pointer)"),
+    ("23 beyond the tape gives the way back to it", "max(0, len(s.tape) - m.pointer)", "abs(len(s.tape) - m.pointer)"),
+    ("23 gives the tape's length", "max(0, len(s.tape) - m.pointer)", "len(s.tape)"),
+    ("23 counts to the end of the counted length", "max(0, len(s.tape) - m.pointer)", "max(0, m.counted - m.pointer)"),
+    ("23 of a Deref gives a lane", LANE, LANE + "        if a.number == 23 and ops[m.position].kind == DEREF:\n            a.lane = 1\n"),
+    ("21 gives what the op needs", LANE, LANE + "        if a.number == 21:\n            a.lane = ops[m.position].n or 1\n"),
+    ("the missing lanes are counted", LANE, LANE + "        if a.number in (21, 22, 23):\n            a.lane = (ops[m.position].n or 1) - a.lane\n"),
+    ("a refused step carries lane 0", LANE, "        a.lane = missing_lane(a.number, m, a) if c.sort != STEP else 0\n"),
+    ("a refusal that is not of lanes carries the register's length", LANE,
+     LANE + "        if a.number > 23 or a.number == 20:\n            a.lane = m.lanes\n"),
+    ("50 carries the register's length", "            a.number = 0 if c.sort == STEP else 50\n",
+     "            a.number = 0 if c.sort == STEP else 50\n            a.lane = m.lanes if a.number else 0\n"),
+    ("a step that was made carries the register's length", "            a.number = 0 if c.sort == STEP else 50\n",
+     "            a.number = 0 if c.sort == STEP else 50\n            a.lane = 0 if a.number else m.lanes\n"),
+    ("a run that is over carries the register's length", "        if m.halted or m.position == len(ops):\n            return a\n",
+     "        if m.halted or m.position == len(ops):\n            a.lane = m.lanes\n            return a\n"),
+    ("37 carries the register's length", "        a.number, a.place = 37, 0\n", "        a.number, a.place, a.lane = 37, 0, m.lanes\n"),
 ]
 
 

@@ -131,6 +131,7 @@ SHOW = {
     "register": lambda c, a: shortened(signed(a.register[:a.machine.lanes])),
     "floats": lambda c, a: shortened(floats(a.register[:a.machine.lanes])),
     "bits": lambda c, a: shortened(["%016X" % v for v in a.register[:a.machine.lanes]]),
+    "missing": lambda c, a: "lane %d" % a.lane,
     "pointer": lambda c, a: str(a.machine.pointer),
     "length": lambda c, a: str(a.machine.counted),
     "tape": lambda c, a: shortened(signed(cells(a.tape))),

@@ -22,8 +22,8 @@ import plant  # noqa: E402
 # of every style of random case so many, none of more bytes than this; full stacks are longer
 STYLES = {"soup": 130, "bracketed": 150, "checked": 170, "soup floats": 60, "bracketed floats": 60, "checked floats": 80, "mid-state": 260, "step": 60,
           "boundary": 80, "no state": 50, "short tape": 20, "lent room": 10, "lent cells not zero": 6, "file": 60, "check": 60}
-LONG = 800
-FULL = 2600
+LONG = 804
+FULL = 2604
 # every number of the paper's table, each at least so often
 NUMBERS = [0, *range(1, 14), *range(20, 31), *range(32, 38), 40, 50]
 OFTEN = 3
@@ -103,6 +103,9 @@ def replay_list(judge):
         for c, data in edges:
             if c.answer.number == number and numbers.get(number, 0) < OFTEN:
                 keep(c, data)
+    # which lane was missing
+    for c, data, _ in settled(judge, generate.missing()):
+        keep(c, data)
     for number in NUMBERS:
         if numbers.get(number, 0) < OFTEN:
             sys.exit("lists/make.py: number %d is met %d times" % (number, numbers.get(number, 0)))

@@ -67,12 +67,12 @@ struct Lent {
     table: Vec<u16>,
     channel: Vec<u64>,
     output: Vec<u64>,
-    answer: [u64; 4],
+    answer: [u64; 5],
 }
 
 impl Lent {
     fn new(c: &Case) -> Lent {
-        Lent { register: vec![0; 1024], tape: vec![0; c.cells], table: vec![0; 256], channel: vec![0; 256], output: vec![0; c.room], answer: [0; 4] }
+        Lent { register: vec![0; 1024], tape: vec![0; c.cells], table: vec![0; 256], channel: vec![0; 256], output: vec![0; c.room], answer: [0; 5] }
     }
     fn bytes(&self) -> usize {
         8 * (self.register.len() + self.tape.len() + self.channel.len() + self.output.len()) + 2 * self.table.len()
@@ -119,6 +119,7 @@ fn agreed(c: &Case, lent: &mut Lent) -> u64 {
         steps += 1;
     }
     assert_eq!(lent.answer[2], steps, "{}: steps", c.name);
+    assert_eq!(lent.answer[4], 0, "{}: a lane of a finished run", c.name);
     let p = vm.parts();
     for (i, v) in p.register.iter().enumerate() {
         assert!(same(*v as u64, lent.register[i]), "{}: lane {i}", c.name);

@@ -1,5 +1,6 @@
 //! The judge: reads a list of cases (docs/REPLAY.md) on standard input, runs the Rust on each, and writes one line for each:
-//! sort, expected number, verdict, kind of the refused op (or -), and how many NaNs were brought to the fixed bits.
+//! sort, expected number, verdict, kind of the refused op (or -), how many NaNs were brought to the fixed bits, and 1 where the
+//! Rust's panic names the lane that the answer gives, else 0.
 //!
 //! Verdicts: `agree`, `differ` with what differs after it, and, where the expected answer is a refusal at a step, what the Rust
 //! does at that op after agreeing on every step before: `went` on, `err`, `panic`, `hang`, `big` (more room than the judge has).
@@ -74,8 +75,25 @@ fn has_partner(kinds: &[u16], i: usize, at_else: bool) -> bool {
 
 type Vm = StandardInterpreter<TestingDevice>;
 
+/// Number, verdict, kind, NaNs, and whether the lane was named.
+type Verdict = (usize, String, String, usize, usize);
+
+/// What is noted of the steps of a run.
+struct Seen {
+    /// NaNs that were brought to the fixed bits
+    nans: usize,
+    /// the length and the index that the last panic names, if it was at an index
+    index: Option<(usize, usize)>,
+}
+
+/// "index out of bounds: the len is 4 but the index is 7": 4 and 7.
+fn index_named(words: &str) -> Option<(usize, usize)> {
+    let (len, index) = words.strip_prefix("index out of bounds: the len is ")?.split_once(" but the index is ")?;
+    Some((len.parse().ok()?, index.parse().ok()?))
+}
+
 /// One step, looked at first unless raw: a search without an end and a tape beyond the judge's room are not tried.
-fn step(vm: &mut Vm, code: &StandardProgram, kinds: &[u16], raw: bool, nans: &mut usize) -> &'static str {
+fn step(vm: &mut Vm, code: &StandardProgram, kinds: &[u16], raw: bool, seen: &mut Seen) -> &'static str {
     let p = vm.parts();
     let (i, at, len) = (*p.i, *p.pointer, p.cells.len());
     let lane = p.register.first().copied();
@@ -103,7 +121,10 @@ fn step(vm: &mut Vm, code: &StandardProgram, kinds: &[u16], raw: bool, nans: &mu
         }
     }
     match catch_unwind(AssertUnwindSafe(|| vm.one_step(code))) {
-        Err(_) => return "panic",
+        Err(told) => {
+            seen.index = told.downcast_ref::<String>().and_then(|words| index_named(words));
+            return "panic";
+        }
         Ok(Err(_)) => return "err",
         Ok(Ok(())) => {}
     }
@@ -115,15 +136,49 @@ fn step(vm: &mut Vm, code: &StandardProgram, kinds: &[u16], raw: bool, nans: &mu
         for lane in &mut vm.parts().register[..*n] {
             if f64::from_bits(*lane as u64).is_nan() && *lane != 0x7FF8000000000000 {
                 *lane = 0x7FF8000000000000;
-                *nans += 1;
+                seen.nans += 1;
             }
         }
     }
     "went"
 }
 
+/// Whether an op works on lanes and cells, and adds no cells to the tape.
+fn is_cell_op(kind: u16) -> bool {
+    matches!(kind, 15 | 17..=20 | 22..=26 | 28..=32 | 36 | 261..=265)
+}
+
+/// Whether the panic at an op that is refused with 21 or 22 names the lane of the answer. It does not where a cell was missing first, or where the
+/// Rust passed that lane over; where it names another, that is the `Err`. The register is that before the op.
+fn is_named(number: usize, kind: u16, lane: usize, seen: &Seen, register: &[i64], pointer: usize, cells: &[i64]) -> Result<bool, String> {
+    let (len, index) = seen.index.ok_or("lane:none")?;
+    // where there is no lane and no cell it may be the one or the other, and a cell's says less
+    let of_cell = is_cell_op(kind) && len == cells.len() && index >= pointer;
+    // it goes lane by lane: those below this one were had or passed over
+    let at = if of_cell { index - pointer } else { index };
+    let passed = |k: usize| match (number, kind) {
+        // an And, an Or does not look at a cell if the lane decides
+        (22, 25) => register[k] == 0,
+        (22, 26) => register[k] != 0,
+        // a Div, a Rem does not look at a lane if the cell is zero
+        (21, 31 | 32) => cells[pointer + k] == 0,
+        _ => false,
+    };
+    let wrong = Err(format!("lane:{at}:len:{len}"));
+    match (number, of_cell) {
+        (22, false) => wrong,
+        (21, false) if lane != len => wrong,
+        _ if lane < at && (lane..at).all(passed) => Ok(false),
+        _ if lane < at => wrong,
+        // a cell of this lane or of one below it was missing first
+        (21, true) => Ok(false),
+        _ if lane == at => Ok(true),
+        _ => wrong,
+    }
+}
+
 /// A run; or one step, which is a run of budget 1 but that it gives 0 where it was made.
-fn run(r: &mut Reader, fresh: bool, one: bool, raw: bool) -> (usize, String, String, usize) {
+fn run(r: &mut Reader, fresh: bool, one: bool, raw: bool) -> Verdict {
     let patch = r.counted();
     let budget = r.u32();
     let inputs: Vec<i64> = (0..r.u32()).map(|_| r.u64() as i64).collect();
@@ -136,6 +191,7 @@ fn run(r: &mut Reader, fresh: bool, one: bool, raw: bool) -> (usize, String, Str
     let number = r.u32();
     let steps = r.u32();
     let place = r.u32();
+    let lane = r.u32();
     let m = machine(r);
     let tape2 = r.sparse(tape.len());
     let register2 = r.sparse(register.len());
@@ -143,23 +199,23 @@ fn run(r: &mut Reader, fresh: bool, one: bool, raw: bool) -> (usize, String, Str
     let channel2 = r.sparse(channel.len());
     let outputs2 = r.sparse(outputs.len());
     assert!(!one || budget == 1 && steps < 2 && number != 50, "more than one step");
-    let mut nans = 0;
+    let mut seen = Seen { nans: 0, index: None };
     let no_kind = "-".to_string();
     if (1..10).contains(&number) || number == 37 {
-        return (number, "port".into(), no_kind, 0);
+        return (number, "port".into(), no_kind, 0, 0);
     }
     let Some((code, kinds)) = ops(patch) else {
-        return (number, "utf8".into(), no_kind, 0);
+        return (number, "utf8".into(), no_kind, 0, 0);
     };
     let code = StandardProgram(code);
     let mut vm = StandardInterpreter::new(TestingDevice::new_raw(inputs.clone()));
     let mut written = 0;
     if let Some(s) = start {
         if tape.iter().skip(s.counted).any(|c| *c != 0) {
-            return (number, "dirty".into(), no_kind, 0);
+            return (number, "dirty".into(), no_kind, 0, 0);
         }
         if s.counted > ROOM {
-            return (number, "big".into(), no_kind, 0);
+            return (number, "big".into(), no_kind, 0, 0);
         }
         written = s.written;
         let p = vm.parts();
@@ -181,12 +237,12 @@ fn run(r: &mut Reader, fresh: bool, one: bool, raw: bool) -> (usize, String, Str
         let p = vm.parts();
         *p.done || *p.i >= kinds.len()
     };
-    let differ = |what: String| (number, format!("differ:{what}"), "-".to_string(), 0);
+    let differ = |what: String| (number, format!("differ:{what}"), "-".to_string(), 0, 0);
     let mut made = 0;
     while made < steps && !over(&mut vm) {
-        match step(&mut vm, &code, &kinds, raw, &mut nans) {
+        match step(&mut vm, &code, &kinds, raw, &mut seen) {
             "went" => made += 1,
-            "big" => return (number, "big".into(), no_kind, nans),
+            "big" => return (number, "big".into(), no_kind, seen.nans, 0),
             other => return differ(format!("{other}-at-step-{made}")),
         }
     }
@@ -240,20 +296,29 @@ fn run(r: &mut Reader, fresh: bool, one: bool, raw: bool) -> (usize, String, Str
     }
     let ended = over(&mut vm);
     match number {
-        0 if ended || one && steps == 1 => (number, "agree".into(), no_kind, nans),
+        0 if ended || one && steps == 1 => (number, "agree".into(), no_kind, seen.nans, 0),
         0 => differ("not-over".into()),
-        50 if !ended && steps == budget => (number, "agree".into(), no_kind, nans),
+        50 if !ended && steps == budget => (number, "agree".into(), no_kind, seen.nans, 0),
         50 => differ("over".into()),
         _ if ended => differ("over".into()),
         _ => {
-            let kind = kinds[m.position].to_string();
-            let what = step(&mut vm, &code, &kinds, raw, &mut nans);
-            (number, what.into(), kind, nans)
+            let kind = kinds[m.position];
+            let register = vm.parts().register.clone();
+            let what = step(&mut vm, &code, &kinds, raw, &mut seen);
+            let mut named = false;
+            if what == "panic" && (number == 21 || number == 22) {
+                let p = vm.parts();
+                match is_named(number, kind, lane, &seen, &register, *p.pointer, p.cells) {
+                    Ok(b) => named = b,
+                    Err(what) => return differ(what),
+                }
+            }
+            (number, what.into(), kind.to_string(), seen.nans, named as usize)
         }
     }
 }
 
-fn join(r: &mut Reader) -> (usize, String, String, usize) {
+fn join(r: &mut Reader) -> Verdict {
     let patch = r.counted();
     r.u32();
     r.u8();
@@ -280,10 +345,10 @@ fn join(r: &mut Reader) -> (usize, String, String, usize) {
     } else {
         "utf8".into()
     };
-    (number, verdict, "-".into(), 0)
+    (number, verdict, "-".into(), 0, 0)
 }
 
-fn flatten(r: &mut Reader) -> (usize, String, String, usize) {
+fn flatten(r: &mut Reader) -> Verdict {
     let patch = r.counted();
     r.u32();
     r.u8();
@@ -313,7 +378,7 @@ fn flatten(r: &mut Reader) -> (usize, String, String, usize) {
                     let body = &functions[&n];
                     found.push([n as usize, first, body.len()]);
                     if flat.0[first..first + body.len()] != body[..] && !has_nan(body) {
-                        return (number, "differ:body".into(), kind, 0);
+                        return (number, "differ:body".into(), kind, 0, 0);
                     }
                     first += body.len();
                 }
@@ -331,7 +396,7 @@ fn flatten(r: &mut Reader) -> (usize, String, String, usize) {
     } else {
         "utf8".into()
     };
-    (number, verdict, kind, 0)
+    (number, verdict, kind, 0, 0)
 }
 
 /// An op that holds a NaN is not equal to itself.
@@ -349,7 +414,7 @@ fn judge() {
         let case = list.counted();
         let mut r = Reader { bytes: case, at: 0 };
         let sort = r.u8();
-        let (number, verdict, kind, nans) = match sort {
+        let (number, verdict, kind, nans, named) = match sort {
             0 => run(&mut r, false, false, raw),
             1 => run(&mut r, true, false, raw),
             2 => join(&mut r),
@@ -358,13 +423,13 @@ fn judge() {
                 r.counted();
                 let number = r.u32();
                 r.u32();
-                (number, "port".into(), "-".into(), 0)
+                (number, "port".into(), "-".into(), 0, 0)
             }
             5 => run(&mut r, false, true, raw),
             s => panic!("no sort {s}"),
         };
         assert!(verdict.starts_with("differ") || r.at == case.len(), "a case of sort {sort} has bytes left over");
-        writeln!(out, "{sort} {number} {verdict} {kind} {nans}").unwrap();
+        writeln!(out, "{sort} {number} {verdict} {kind} {nans} {named}").unwrap();
     }
 }
 

@@ -95,7 +95,7 @@ module _ (g : Given) (c : Held) (h : Counted c) where
       (record { calls = o .calls; refs = o .refs; register = laid-set (c .register) (p .lanes) 0 v w (h .lanes); table = o .table; output = o .output; channel = ring-same (c .channel) ((p .first + 1) % 256) (p .waiting - 1); head = omega arith })
       (rw (take-set-lt (p .lanes) (c .register) 0 v w, add-one (c .numbers .position)) refl)
 
-  no-values : c .numbers .waiting ≡ 0 → record { number = 33; held = c } ≡ laid c (peekAt (view c) (ring (c .channel) (c .numbers .first) (c .numbers .waiting)))
+  no-values : c .numbers .waiting ≡ 0 → record { number = 33; lane = 0; held = c } ≡ laid c (peekAt (view c) (ring (c .channel) (c .numbers .first) (c .numbers .waiting)))
   unfolding ring
   no-values e = rw e refl
 

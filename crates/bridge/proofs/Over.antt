@@ -47,7 +47,7 @@ over-lay c d o =
     (o .output .whole)
 
 abbrev pub went : Held → After
-went d = record { number = 0; held = d }
+went d = record { number = 0; lane = 0; held = d }
 
 -- a step that went on, from its two halves
 pub meets : (c d : Held) (s : State) → Over c d → view d ≡ s → went d ≡ laid c (next s)

@@ -13,21 +13,23 @@ use Rattle.machine_model.specs.Step.{Outcome, pick, step}
 use Rattle.machine_model.specs.Step.Outcome.{finished, refused, next}
 use Rattle.machine_model.proofs.Outcomes.{Gives}
 use Rattle.machine_model.proofs.Effects.{Over, Refusal, step-does}
-use Rattle.machine_model.proofs.Effects.Refusal.{lost, narrow, other}
+use Rattle.machine_model.proofs.Effects.Refusal.{lost, narrow, short, cut, other}
 
 pub data Real : Outcome → Type 0 where
   goes : (s : State) → Real (next s)
-  stops : (n : ℕ) → eqb n 0 ≡ false → Real (refused n)
+  stops : (n l : ℕ) → eqb n 0 ≡ false → Real (refused n l)
 
 module _ (g : Given) (s : State) (e : (s .halted || leb (length (g .ops)) (s .at)) ≡ false) where
-  not-0 : (o : Op) (n : ℕ) → Refusal g s o n → eqb n 0 ≡ false
-  not-0 o _ (lost h b l) = refl
-  not-0 o _ (narrow h l) = refl
-  not-0 o n (other h) = omega (arith, leb-true, ne-eqb)
+  not-0 : (o : Op) (n l : ℕ) → Refusal g s o n l → eqb n 0 ≡ false
+  not-0 o _ _ (lost h b l) = refl
+  not-0 o _ _ (narrow h l) = refl
+  not-0 o _ _ (short m) = refl
+  not-0 o _ _ (cut m) = refl
+  not-0 o n _ (other h) = omega (arith, leb-true, ne-eqb)
 
   real : (o : Op) (P : State → Type 0) (x : Outcome) → Gives (Over g s) (Refusal g s o) P x → Real x
   real o P _ (Gives.ended h) = clash (cc)
-  real o P _ (Gives.stopped {n = n} r) = stops n (not-0 o n r)
+  real o P _ (Gives.stopped {n = n} {l = l} r) = stops n l (not-0 o n l r)
   real o P _ (Gives.goes {t = t} h) = goes t
 
 pub step-real : (g : Given) (s : State) → (s .halted || leb (length (g .ops)) (s .at)) ≡ false → Real (step g s)

@@ -98,7 +98,7 @@ module _ (s input : List ℕ) where
       spent : (k : ℕ) (c : Held) → over c ≡ false → (o : Outcome) → Real o → runOf 0 k (codeOf s) input c ≡ driveLaid given 0 k c o
       unfolding runOf pick driveLaid over
       spent k c e _ (goes t) = rw e refl
-      spent k c e _ (stops n z) = rw e refl
+      spent k c e _ (stops n l z) = rw e refl
 
       turns : (n k : ℕ) (c : Held) → over c ≡ false
           → ((t : State) → step given (view c) ≡ next t → runOf n (suc k) (codeOf s) input (lay t c) ≡ driveLaid given n (suc k) (lay t c) (step given (view (lay t c))))
@@ -106,7 +106,7 @@ module _ (s input : List ℕ) where
           → runOf (suc n) k (codeOf s) input c ≡ driveLaid given (suc n) k c o
       unfolding runOf pick driveLaid over
       turns n k c e less _ (goes t) q r = rw (e, r) (less t q)
-      turns n k c e less _ (stops m z) q r = rw (e, r, z) refl
+      turns n k c e less _ (stops m l z) q r = rw (e, r, z) refl
 
       ended : (c : Held) → over c ≡ true → step given (view c) ≡ finished
       ended c e = step-over given (view c) (over-is c ∙ e)
@@ -135,10 +135,10 @@ module _ (s input : List ℕ) where
       shows : (n k : ℕ) (c : Held) (o : Outcome) → Sound c → step given (view c) ≡ o → seen (driveLaid given n k c o) ≡ drive given n k (view c) o
       unfolding driveLaid drive
       shows zero k c finished h q = refl
-      shows zero k c (refused m) h q = refl
+      shows zero k c (refused m l) h q = refl
       shows zero k c (next t) h q = refl
       shows (suc n) k c finished h q = refl
-      shows (suc n) k c (refused m) h q = refl
+      shows (suc n) k c (refused m l) h q = refl
       shows (suc n) k c (next t) h q =
           shows n (suc k) (lay t c) (step given (view (lay t c))) (sound-next c t h q) refl
           ∙ ap (λ (u : State). drive given n (suc k) u (step given u)) (seen-next c t h q)

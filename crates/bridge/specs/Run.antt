@@ -6,7 +6,7 @@ use Prim.Native.Nat.{ℕ, zero, suc}
 use lib.ListN.{length}
 use lib.Dec.{leb, eqb}
 use Rattle.basics.specs.Pick.{pick}
-use Rattle.answers.specs.Run.{numberOf, placeOf}
+use Rattle.answers.specs.Run.{numberOf, placeOf, laneOf}
 use Rattle.answers.specs.declared.run.Answer.{Answer}
 use Rattle.answers.specs.declared.run.Answer.the-variants.{Finished, Spent, Refused}
 use Rattle.machine_model.specs.State.{Given}
@@ -30,20 +30,20 @@ ran a k c = record { answer = a; steps = k; held = c }
 -- budget gives 50", before any refusal
 unfoldable pub driveLaid : Given → ℕ → ℕ → Held → Outcome → Ran
 driveLaid g zero k c finished = ran Finished k c
-driveLaid g zero k c (refused n) = ran Spent k c
+driveLaid g zero k c (refused n l) = ran Spent k c
 driveLaid g zero k c (next s) = ran Spent k c
 driveLaid g (suc b) k c finished = ran Finished k c
-driveLaid g (suc b) k c (refused n) = ran (Refused n) k c
+driveLaid g (suc b) k c (refused n l) = ran (Refused n l) k c
 driveLaid g (suc b) k c (next s) = driveLaid g b (suc k) (lay s c) (step g (view (lay s c)))
 
 unfoldable pub runLaid : Given → ℕ → Held → Ran
 unfolding driveLaid
 runLaid g b c = driveLaid g b 0 c (step g (view c))
 
--- what is seen of a run: 01's number and place of its answer, the steps, and the state
+-- what is seen of a run: 01's number and place of its answer, its lane, the steps, and the state
 abbrev pub seen : Ran → model.Answer
 seen r =
-    record { number = numberOf (r .answer); steps = r .steps; place = placeOf (r .answer) (r .held .numbers .position); state = view (r .held) }
+    record { number = numberOf (r .answer); lane = laneOf (r .answer); steps = r .steps; place = placeOf (r .answer) (r .held .numbers .position); state = view (r .held) }
 
 -- ---- the run as the code makes it
 
@@ -57,4 +57,4 @@ runOf zero k x input c = pick (isOver x c) (ran Finished k c) (ran Spent k c)
 runOf (suc b) k x input c =
     let o = stepOf x input c in
     let rest = runOf b (suc k) x input (o .held) in
-    pick (isOver x c) (ran Finished k c) (pick (eqb (o .number) 0) rest (ran (Refused (o .number)) k (o .held)))
+    pick (isOver x c) (ran Finished k c) (pick (eqb (o .number) 0) rest (ran (Refused (o .number) (o .lane)) k (o .held)))

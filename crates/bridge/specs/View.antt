@@ -61,6 +61,6 @@ lay s c =
 
 -- the model's outcome over what the step began with: a refused step leaves all as it was
 abbrev pub laid : Held → Outcome → After
-laid c finished = record { number = 0; held = c }
-laid c (refused n) = record { number = n; held = c }
-laid c (next s) = record { number = 0; held = lay s c }
+laid c finished = record { number = 0; lane = 0; held = c }
+laid c (refused n l) = record { number = n; lane = l; held = c }
+laid c (next s) = record { number = 0; lane = 0; held = lay s c }

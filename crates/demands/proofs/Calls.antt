@@ -67,7 +67,7 @@ fresh-coincides s input b n r q l m e f = alike (freshCall s input b n) r q l m 
 
 shown-of-same : (c : Held) (o : Outcome) → (numberOf (shownOf c o .answer) ≡ 0 → ⊥) → shownOf c o .held ≡ c
 shown-of-same c finished z = refl
-shown-of-same c (refused n) z = refl
+shown-of-same c (refused n l) z = refl
 shown-of-same c (next t) z = absurd (z refl)
 
 shown-same : (s input : List ℕ) (c : Held) → (numberOf (stepCall s input c .answer) ≡ 0 → ⊥) → stepCall s input c .held ≡ c

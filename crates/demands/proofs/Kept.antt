@@ -27,10 +27,10 @@ module _ (g : Given) (P : Held → Type 0) (leads : (c : Held) (t : State) → P
   drive-keeps : (n k : ℕ) (c : Held) (o : Outcome) → P c → step g (view c) ≡ o → P (driveLaid g n k c o .held)
   unfolding driveLaid
   drive-keeps zero k c finished h e = h
-  drive-keeps zero k c (refused m) h e = h
+  drive-keeps zero k c (refused m l) h e = h
   drive-keeps zero k c (next t) h e = h
   drive-keeps (suc n) k c finished h e = h
-  drive-keeps (suc n) k c (refused m) h e = h
+  drive-keeps (suc n) k c (refused m l) h e = h
   drive-keeps (suc n) k c (next t) h e = drive-keeps n (suc k) (lay t c) _ (leads c t h e) refl
 
   pub run-keeps : (n : ℕ) (c : Held) → P c → P (runLaid g n c .held)

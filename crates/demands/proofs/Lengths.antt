@@ -53,7 +53,7 @@ module _ (g : Given) where
 
   shown-whole : (c : Held) (o : Outcome) → WholeIn c → step g (view c) ≡ o → WholeIn (shownOf c o .held)
   shown-whole c finished w e = w
-  shown-whole c (refused n) w e = w
+  shown-whole c (refused n l) w e = w
   shown-whole c (next t) w e = lay-whole c t w e
 
 -- what holds of a call's refusals and of its work holds of the call

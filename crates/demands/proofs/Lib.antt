@@ -13,3 +13,4 @@ pub mod Demand3
 pub mod Coincide
 pub mod OneTable
 pub mod Lengths
+pub mod Missing

@@ -27,11 +27,11 @@ use Rattle.flattening.specs.Flatten.Flat.{loose, flat}
 use Rattle.flattening.specs.declared.body.Body.{Body}
 
 -- a patch and its input, checked and run as the runner does; a patch joined; a patch flattened; a run over a tape, a room and a budget of its
--- own; values sent to an empty ring that starts at a place, and taken again
+-- own, and the lane of such a run; values sent to an empty ring that starts at a place, and taken again
 data Try : Type 0 where
   ran : List Op → List ℕ → Try
   joined flattened : List Op → Try
-  run-in : more.Case → Try
+  run-in lane-in : more.Case → Try
   rung : ℕ → List ℕ → Try
 
 record Case : Type 0 where
@@ -78,11 +78,12 @@ show-ring (suc n) channel first waiting = before (peekOf channel first waiting) 
 
 -- "4,096 cells, room for 4,096 outputs, budget 100,000"
 tried : Try → List ℕ
-unfolding show-run run check fresh show-ops show-flat join flatten more.tried sent show-ring
+unfolding show-run run check fresh show-ops show-flat join flatten more.tried more.lane-tried sent show-ring
 tried (ran os vs) = show-run (check os) (run (record { ops = os; input = vs; room = 4096 }) 100_000 (fresh 4096))
 tried (joined os) = show-ops (join os)
 tried (flattened os) = show-flat (flatten os)
 tried (run-in c) = more.tried c
+tried (lane-in c) = more.lane-tried c
 tried (rung first vs) = show-ring (length vs) (sent (replicate 256 0) first 0 vs) first (length vs)
 
 least : ℕ
@@ -142,8 +143,8 @@ unfolding case
 wraps = case (rung 255 (7 ∷ 8 ∷ 9 ∷ [])) (7 ∷ 8 ∷ 9 ∷ 2 ∷ 0 ∷ [])
 
 cases : List Case
-unfolding thirteen wraps case more.cases
-cases = thirteen ++ map (λ c. case (run-in c) (c .seen)) more.cases ++ (wraps ∷ [])
+unfolding thirteen wraps case more.cases more.lanes
+cases = thirteen ++ map (λ c. case (run-in c) (c .seen)) more.cases ++ map (λ c. case (lane-in c) (c .seen)) more.lanes ++ (wraps ∷ [])
 
 all : map (λ c. tried (c .make)) cases ≡ map (λ c. c .seen) cases
 unfolding tried cases

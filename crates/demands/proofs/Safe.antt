@@ -18,7 +18,7 @@ use Rattle.machine_model.specs.Run.{run}
 use Rattle.machine_model.proofs.Scans.{isControl, Landing, landing-below}
 use Rattle.machine_model.proofs.Outcomes.{next-gives, refused-gives, run-keeps}
 use Rattle.machine_model.proofs.Effects.{Places, made, Refusal, Effect, step-does}
-use Rattle.machine_model.proofs.Effects.Refusal.{lost, narrow, other}
+use Rattle.machine_model.proofs.Effects.Refusal.{lost, narrow, short, cut, other}
 use Rattle.machine_model.proofs.Effects.Effect.{turns, acts}
 use Rattle.patch_check.specs.Rules.{asksOf, asks, leaves, known, KeepsRules}
 use Rattle.demands.specs.Reached.{given, Reached}
@@ -77,10 +77,12 @@ module _ (g : Given) (rules : KeepsRules (g .ops)) where
   asked : (s : State) → Inv (g .ops) s → s .at < length (g .ops) → asks (opAt (g .ops) (s .at)) ≤ length (s .reg)
   asked s i h = omega (arith, rules .enough (s .at) h, i .enough)
 
-  spares : (s : State) (n : ℕ) → Inv (g .ops) s → Refusal g s (opAt (g .ops) (s .at)) n → Neither20Nor21 n
-  spares s _ i (lost h b e) = absurd (closes-after (g .ops) rules (s .at) h b e)
-  spares s _ i (narrow h l) = absurd (omega (arith, needs-asks (opAt (g .ops) (s .at)), asked s i h))
-  spares s n i (other h) = omega (arith, leb-true)
+  spares : (s : State) (n l : ℕ) → Inv (g .ops) s → Refusal g s (opAt (g .ops) (s .at)) n l → Neither20Nor21 n
+  spares s _ _ i (lost h b e) = absurd (closes-after (g .ops) rules (s .at) h b e)
+  spares s _ _ i (narrow h l) = absurd (omega (arith, needs-asks (opAt (g .ops) (s .at)), asked s i h))
+  spares s _ _ i (short m) = omega arith
+  spares s _ _ i (cut m) = omega arith
+  spares s n _ i (other h) = omega (arith, leb-true)
 
   -- after the op at a place, the lanes that it leaves
   after : (j n : ℕ) → j < length (g .ops) → leaves (opAt (g .ops) j) (known lanes (g .ops) j) ≤ n → known lanes (g .ops) (suc j) ≤ n
@@ -103,7 +105,7 @@ module _ (g : Given) (rules : KeepsRules (g .ops)) where
   run-spares : (budget : ℕ) (s : State) → Inv (g .ops) s → Neither20Nor21 (run g budget s .number) × Inv (g .ops) (run g budget s .state)
   run-spares =
       run-keeps Neither20Nor21 (Inv (g .ops)) (omega arith) (omega arith) g
-      (λ s n i e. spares s n i (refused-gives (step g s) n (step-does g (Landing (g .ops)) (λ j h. h) s) e))
+      (λ s n l i e. spares s n l i (refused-gives (step g s) n l (step-does g (Landing (g .ops)) (λ j h. h) s) e))
       (λ s t i e. keeps s t _ refl i (next-gives (step g s) t (step-does g (Landing (g .ops)) (λ j h. h) s) e))
 
 -- ---- demand 3

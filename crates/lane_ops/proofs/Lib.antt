@@ -1,2 +1,3 @@
 -- The arms of the rows.
 pub mod Rows
+pub mod Reached

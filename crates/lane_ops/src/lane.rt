@@ -7,11 +7,23 @@ ghost use Rattle.basics.specs.Limits as limit;
 ghost use Rattle.lane_loops.specs.Rows.{cellRow, laneRow};
 ghost use Rattle.machine_numbers.specs.declared.numbers.Numbers.{Numbers};
 ghost use Rattle.machine_numbers.specs.Numbers.{atPointer, ofLength, onward, oneList, swapped};
-ghost use Rattle.lane_ops.specs.Lane.{cellOf, swapOf, aloneOf, offsetOf, LaneDone};
+ghost use Rattle.lane_ops.specs.Lane.{reachedOf, cellOf, swapOf, aloneOf, offsetOf, LaneDone};
 use kind_table::row;
-use machine_numbers::cells::had;
+use machine_numbers::cells::have;
 use machine_numbers::numbers::DONE;
 use machine_numbers::numbers::HALTED;
+
+// Whether n cells can be had at the pointer `at`: within the counted length l, 22, and then within the lent tape of m cells, 23.
+fn reached(n: usize, at: usize, l: usize, m: usize) -> u32
+    requires { ⌜ n ≤ limit.lanes ⌝ }
+    ensures { λ r. ⌜ r ≡ reachedOf n at l m ⌝ }
+{
+    let r = have(22, l, at, n);
+    if r != DONE {
+        return r;
+    }
+    have(23, m, at, n)
+}
 
 // At the pointer `at` of a tape of the counted length l.
 fn cell(k: u8, n: usize, at: usize, l: usize, register: &mut [u64], tape: &[u64]) -> u32
@@ -19,11 +31,9 @@ fn cell(k: u8, n: usize, at: usize, l: usize, register: &mut [u64], tape: &[u64]
     ensures { λ r. ⌜ ((p : Numbers) → oneList (onward r (ofLength (atPointer p at) l)) (now (register .exit)) ≡ cellOf (cellRow k) n (ofLength (atPointer p at) l) (now (register .entry)) (now (tape .entry))) ⌝ }
 {
     if n == 1 {
-        if l <= at {
-            return 22; // the cell is beyond the counted length
-        }
-        if tape.len() <= at {
-            return 23; // the cell is beyond the lent tape
+        let r = reached(1, at, l, tape.len());
+        if r != DONE {
+            return r;
         }
         lane_loops::loops::zip_one(k, register, &tape[at..]);
         return DONE;
@@ -31,11 +41,9 @@ fn cell(k: u8, n: usize, at: usize, l: usize, register: &mut [u64], tape: &[u64]
     if n == 0 {
         return DONE;
     }
-    if had(l, at) < n {
-        return 22; // a cell beyond the counted length
-    }
-    if had(tape.len(), at) < n {
-        return 23; // a cell beyond the lent tape
+    let r = reached(n, at, l, tape.len());
+    if r != DONE {
+        return r;
     }
     lane_loops::loops::zip_lanes(k, register, &tape[at..], n);
     DONE
@@ -48,11 +56,9 @@ pub fn swap(n: usize, at: usize, l: usize, register: &mut [u64], tape: &mut [u64
     if n == 0 {
         return DONE;
     }
-    if had(l, at) < n {
-        return 22; // a lane would go beyond the counted length
-    }
-    if had(tape.len(), at) < n {
-        return 23; // a lane would go beyond the lent tape
+    let r = reached(n, at, l, tape.len());
+    if r != DONE {
+        return r;
     }
     lane_loops::loops::swap_lanes(register, &mut tape[at..], n);
     DONE

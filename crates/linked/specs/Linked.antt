@@ -36,7 +36,7 @@ ofRead r a = given (r .number) (told (r .number ∷ r .place ∷ r .ops ∷ []) 
 abbrev pub ofCheck : Verdict → List ℕ → Given
 ofCheck v a = given (checking.numberOf v) (told (checking.numberOf v ∷ checking.placeOf v ∷ []) a)
 
--- ---- the run: number, place, steps and the count of outputs; and the lent slices
+-- ---- the run: number, place, steps, the count of outputs, and the lane of 02's ask 3; and the lent slices
 pub record Run : Type 0 where
   pub given : Given
   pub lent : Slices
@@ -48,7 +48,7 @@ abbrev pub ofRun : Ran → List ℕ → Run
 ofRun r a =
     let number = running.numberOf (r .answer) in
     let place = running.placeOf (r .answer) (r .held .numbers .position) in
-    run number (told (number ∷ place ∷ r .steps ∷ r .held .numbers .written ∷ []) a)
+    run number (told (number ∷ place ∷ r .steps ∷ r .held .numbers .written ∷ running.laneOf (r .answer) ∷ []) a)
     (slices (r .held .register) (r .held .tape) (r .held .table) (r .held .channel) (r .held .output))
 
 -- ---- joining: number, place and the bytes written; and the lent bytes

@@ -40,7 +40,7 @@ pub extern "C" fn feltcairn_check(bytes: &[u8], answer: &mut [u64]) -> usize
     number
 }
 
-// The fresh run: number, place, steps, and the count of outputs.
+// The fresh run: number, place, steps, the count of outputs, and the first lane that could not be had.
 #[no_mangle]
 pub extern "C" fn feltcairn_run_fresh(
     bytes: &[u8],
@@ -60,9 +60,16 @@ pub extern "C" fn feltcairn_run_fresh(
     let h = r.machine.numbers;
     let number = answers::run::number_of(a);
     let place = answers::run::place_of(a, h.position);
+    let lane = answers::run::lane_of(a);
     let steps = r.steps;
     let written = h.written;
-    let told = [number as u64, place as u64, steps as u64, written as u64];
+    let told = [
+        number as u64,
+        place as u64,
+        steps as u64,
+        written as u64,
+        lane as u64,
+    ];
     tell(answer, &told);
     number
 }

@@ -27,13 +27,13 @@ module _ (g : Given) where
   spent : (c : Held) (o : Outcome) → onceOf (driveLaid g 0 1 c o) ≡ shown Went c
   unfolding onceOf driveLaid
   spent c finished = refl
-  spent c (refused n) = refl
+  spent c (refused n l) = refl
   spent c (next t) = refl
 
   driven : (c : Held) (o : Outcome) → onceOf (driveLaid g 1 0 c o) ≡ shownOf c o
   unfolding onceOf driveLaid
   driven c finished = refl
-  driven c (refused n) = refl
+  driven c (refused n l) = refl
   driven c (next t) = spent (lay t c) (step g (view (lay t c)))
 
 pub once-is : (s input : List ℕ) (c : Held) → onceOf (runCall s input 1 c) ≡ stepCall s input c

@@ -43,7 +43,7 @@ shown a c = record { answer = a; held = c }
 -- the model's outcome, laid over what the step began with: a refused step leaves all as it found it
 abbrev pub shownOf : Held → Outcome → Shown
 shownOf c finished = shown Finished c
-shownOf c (refused n) = shown (Refused n) c
+shownOf c (refused n l) = shown (Refused n l) c
 shownOf c (next s) = shown Went (lay s c)
 
 abbrev pub stepLaid : List ℕ → List ℕ → Held → Shown

@@ -173,6 +173,35 @@ refusals =
     ∷ upon 0 (plain (put Other) ∷ out ∷ []) (36 ∷ 1 ∷ 1 ∷ 0 ∷ 0 ∷ 0 ∷ [])
     ∷ []
 
+-- ---- 02, ask 3: the number of a run, and its lane
+
+unfoldable pub lane-tried : Case → List ℕ
+unfolding run fresh
+lane-tried c = let a = run (record { ops = c .ops; input = []; room = c .room }) (c .budget) (withTape (fresh 0) (c .tape)) in a .number ∷ a .lane ∷ []
+
+-- 21 with the register's length, 22 with the cells to the end of the counted length, which the lent tape does not shorten, 23 with those to the end of
+-- the tape; the first lane and a later one; a pointer beyond the end; and the lane 0 of the others, 0 and 50 among them
+unfoldable pub lanes : List Case
+unfolding ran within one
+lanes =
+    ran (set ints (1 ∷ 2 ∷ 3 ∷ []) ∷ plain (offset 1 400) ∷ []) (21 ∷ 3 ∷ [])
+    ∷ ran (load 0 ∷ control if ∷ []) (21 ∷ 0 ∷ [])
+    ∷ ran (plain (cell Add 400) ∷ []) (22 ∷ 0 ∷ [])
+    ∷ ran (plain alloc ∷ load 0 ∷ set ints (7 ∷ 7 ∷ 7 ∷ []) ∷ plain (move 29_999) ∷ plain (cell Add 3) ∷ []) (22 ∷ 1 ∷ [])
+    ∷ ran (plain alloc ∷ plain (move 30_001) ∷ plain (cell Add 1) ∷ []) (22 ∷ 0 ∷ [])
+    ∷ ran (load 4 ∷ plain (move 3) ∷ plain (cell Add 2) ∷ []) (23 ∷ 1 ∷ [])
+    ∷ ran (plain (store 400) ∷ []) (23 ∷ 4 ∷ [])
+    ∷ ran (plain (move 9) ∷ load 1 ∷ []) (23 ∷ 0 ∷ [])
+    ∷ ran (plain (move 4) ∷ plain deref ∷ []) (23 ∷ 0 ∷ [])
+    ∷ ran (plain refer ∷ []) (27 ∷ 0 ∷ [])
+    ∷ ran (load 2 ∷ []) (0 ∷ 0 ∷ [])
+    ∷ within 1 (load 2 ∷ plain (cell Add 3) ∷ []) (50 ∷ 0 ∷ [])
+    ∷ []
+
+all-lanes : map lane-tried lanes ≡ map (λ c. c .seen) lanes
+unfolding lane-tried lanes
+all-lanes = refl
+
 unfoldable pub cases : List Case
 unfolding loops ifs elses functions tapes talks budgets refusals
 cases = loops ++ ifs ++ elses ++ functions ++ tapes ++ talks ++ budgets ++ refusals

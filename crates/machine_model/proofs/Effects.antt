@@ -2,7 +2,7 @@
 -- words. What steps keep is proved from this, and not of each op again. Assumes nothing.
 use Prim.Native.Nat.{ℕ, zero, suc, _+_, _-_, _*_, _/_, _^_, _≤_, _<_}
 use native.Mathlib.Omega.{arith}
-use borrow.Author.Tests.{ltb-true, ltb-false, lt-ltb, leb-false, ne-eqb}
+use borrow.Author.Tests.{ltb-true, ltb-false, lt-ltb, leb-true, leb-false, ne-eqb}
 use mathlib.Core.Path.{_≡_, refl, ap}
 use mathlib.Core.Bool.{Bool, true, false, cond, _||_}
 use mathlib.Core.List.{List, [], _∷_, _++_, reverse}
@@ -10,7 +10,7 @@ use mathlib.Core.Logic.{_⊎_, inl, inr}
 use mathlib.Core.Option.{Option, none, some}
 use lib.Dec.{leb, ltb, eqb}
 use lib.ListN.{length, take, drop, length-take, length-drop, length-append, length-set}
-use Rattle.basics.proofs.Tests.{or-right}
+use Rattle.basics.proofs.Tests.{and-left, and-right, or-right}
 use Rattle.lanes.specs.Int.{intAdd}
 use Rattle.lanes.specs.Lane.{cellRule, laneRule}
 use Rattle.lanes.specs.declared.lane.CellOp.the-variants.{Index}
@@ -33,15 +33,16 @@ use Rattle.testing_device.proofs.Inputs.Bounded.{value}
 use Rattle.testing_device.proofs.Outputs.{put-words}
 use Rattle.machine_model.specs.State.{State, Given, lanes, depth, farthest, longest, firstBlock, lane0, goTo, on, withTable}
 use Rattle.machine_model.specs.Scan.{opAt, brackets, functions, toOpen, kth}
-use Rattle.machine_model.specs.Step.{Outcome, bar, enter, jump, endOf, elseOf, called, found, back, again, turn, minus, cover, beyond, cells, grown, referTo, moveBy, gotten, peekAt, act, exec, op, step}
+use Rattle.machine_model.specs.Step.{Outcome, lack, bar, enter, jump, endOf, elseOf, called, found, back, again, turn, minus, cover, beyond, ahead, cells, grown, referTo, moveBy, gotten, peekAt, act, exec, op, step}
 use Rattle.machine_model.specs.Step.Outcome.{next}
 use Rattle.machine_model.specs.Formed.{Each, Rising, Whole, Formed}
 use Rattle.machine_model.specs.Words.{Word, Words}
+use Rattle.machine_model.specs.Missing.{cellsOf, FirstMissing}
 use Rattle.machine_model.proofs.Each.{each-part, each-end, each-take, each-at, each-getD, each-map, each-zip}
 use Rattle.machine_model.proofs.Scans.{isControl, Landing, function-lands, while-lands, mark-lands, Seeks, end-seeks, else-seeks, kth-is}
 use Rattle.machine_model.proofs.Scans.Seeks.{nowhere, arrives}
 use Rattle.machine_model.proofs.Table.{each-enter, rising-enter}
-use Rattle.machine_model.proofs.Outcomes.{Gives, bar-gives, pick-gives}
+use Rattle.machine_model.proofs.Outcomes.{Gives, lack-gives, bar-gives, pick-gives}
 use Rattle.machine_model.proofs.Outcomes.Gives.{ended, stopped, goes}
 
 -- ---- lists and numbers
@@ -59,6 +60,16 @@ grown-le n = by (eqb n 0)
     by : (b : Bool) → cond b firstBlock n ≤ n + firstBlock
     by true = omega arith
     by false = omega arith
+
+-- the first of n cells from p on that goes beyond a length, and of one cell
+first-ahead : (p n l : ℕ) → beyond p n l ≡ true → FirstMissing (λ j. p + j < l) n (ahead p l)
+first-ahead p n l e =
+    let a = ltb-true 0 n (and-left (ltb 0 n) _ e) in
+    let b = ltb-true l (p + n) (and-right (ltb 0 n) _ e) in
+    record { before = λ j h. omega arith; missing = λ h. omega arith; asked = omega arith }
+
+first-here : (p l : ℕ) → l ≤ p → FirstMissing (λ j. p + j < l) 1 0
+first-here p l h = record { before = λ j i. absurd (omega arith); missing = λ i. omega arith; asked = omega arith }
 
 -- what grows is whole, as what it grew from was
 cover-whole : (p n : ℕ) → Whole n → Whole (cover p n)
@@ -127,11 +138,13 @@ got-word l at _ _ (value v p h _ _) = h
 abbrev pub Over : Given → State → Type 0
 Over g s = (s .halted || leb (length (g .ops)) (s .at)) ≡ true
 
--- 20 where no End closes the bracket, 21 where the register is too short, or a number after these
-pub data Refusal (g : Given) (s : State) (o : Op) : ℕ → Type 0 where
-  lost : s .at < length (g .ops) → (bracket o ≡ up) ⊎ (bracket o ≡ mid) → endOf g s ≡ none → Refusal g s o 20
-  narrow : s .at < length (g .ops) → length (s .reg) < needs o → Refusal g s o 21
-  other : {n : ℕ} → leb 22 n ≡ true → Refusal g s o n
+-- 20 where no End closes the bracket, 21 where the register is too short, 22 and 23 where cells are missing, or a number after these
+pub data Refusal (g : Given) (s : State) (o : Op) : ℕ → ℕ → Type 0 where
+  lost : s .at < length (g .ops) → (bracket o ≡ up) ⊎ (bracket o ≡ mid) → endOf g s ≡ none → Refusal g s o 20 0
+  narrow : s .at < length (g .ops) → length (s .reg) < needs o → Refusal g s o 21 (length (s .reg))
+  short : {l : ℕ} → FirstMissing (λ j. s .pointer + j < s .counted) (cellsOf o) l → Refusal g s o 22 l
+  cut : {l : ℕ} → FirstMissing (λ j. s .pointer + j < length (s .tape)) (cellsOf o) l → Refusal g s o 23 l
+  other : {n : ℕ} → leb 24 n ≡ true → Refusal g s o n 0
 
 -- the saved calls and the table, where Q holds of each place to go on after
 pub record Places (os : List Op) (Q : ℕ → Type 0) (calls table : List ℕ) : Type 0 where
@@ -179,8 +192,17 @@ module _ (g : Given) (Q : ℕ → Type 0) (lands : (j : ℕ) → Landing (g .ops
   abbrev Does : Op → Outcome → Type 0
   Does o = Gives (Over g s) (Refusal g s o) (Effect g Q s o)
 
-  refuses : {o : Op} {b : Bool} {x : Outcome} (n : ℕ) → leb 22 n ≡ true → (b ≡ false → Does o x) → Does o (bar b n x)
+  refuses : {o : Op} {b : Bool} {x : Outcome} (n : ℕ) → leb 24 n ≡ true → (b ≡ false → Does o x) → Does o (bar b n x)
   refuses n h k = bar-gives n (λ _. other h) k
+
+  -- 22 and 23, with the first of the op's cells that is missing
+  falls-short : {o : Op} {x : Outcome} → (beyond (s .pointer) (cellsOf o) (s .counted) ≡ false → Does o x)
+      → Does o (lack (beyond (s .pointer) (cellsOf o) (s .counted)) 22 (ahead (s .pointer) (s .counted)) x)
+  falls-short {o} k = lack-gives 22 _ (λ e. short (first-ahead (s .pointer) (cellsOf o) (s .counted) e)) k
+
+  cuts-short : {o : Op} {x : Outcome} → (beyond (s .pointer) (cellsOf o) (length (s .tape)) ≡ false → Does o x)
+      → Does o (lack (beyond (s .pointer) (cellsOf o) (length (s .tape))) 23 (ahead (s .pointer) (length (s .tape))) x)
+  cuts-short {o} k = lack-gives 23 _ (λ e. cut (first-ahead (s .pointer) (cellsOf o) (length (s .tape)) e)) k
 
   -- ---- control
 
@@ -295,10 +317,10 @@ module _ (g : Given) (Q : ℕ → Type 0) (lands : (j : ℕ) → Landing (g .ops
 
   act-does : (p : Plain) → plainNeeds p ≤ length (s .reg) → Does (plain p) (act g p s)
   unfolding act
-  act-does (store n) l = refuses 23 refl (λ _. grows refl (cover-whole _ _) (λ f h. (omega (arith, covered f n h), f .pointed, λ w. search each-part)))
+  act-does (store n) l = cuts-short (λ _. grows refl (cover-whole _ _) (λ f h. (omega (arith, covered f n h), f .pointed, λ w. search each-part)))
   act-does deref l =
       refuses 32 refl
-      (λ d. refuses 23 refl
+      (λ d. bar-gives 23 (λ e. cut (first-here (s .pointer) (length (s .tape)) (leb-true _ _ e)))
       (λ _. refuses 26 refl
       (λ _. refuses 25 refl
       (λ e. grows refl (cover-whole _ _)
@@ -306,10 +328,10 @@ module _ (g : Given) (Q : ℕ → Type 0) (lands : (j : ℕ) → Landing (g .ops
       (omega (arith, ltb-false, leb-false, length-append (s .refs) (s .pointer ∷ [])), search each-part, λ w. search))))))
   act-does refer l = refer-does (s .refs) refl
   act-does (cell k n) l =
-      refuses 22 refl
-      (λ _. refuses 23 refl
+      falls-short
+      (λ _. cuts-short
       (λ _. works (length-zip (cellRule k) n (s .reg) (drop (s .pointer) (s .tape))) (λ f h. (omega arith, f .pointed, λ w. search (each-part, each-zip, cellRule-below)))))
-  act-does (swap n) l = refuses 22 refl (λ _. refuses 23 refl (λ e. works (swap-long s n l e) (λ f h. (omega arith, f .pointed, λ w. search each-part))))
+  act-does (swap n) l = falls-short (λ _. cuts-short (λ e. works (swap-long s n l e) (λ f h. (omega arith, f .pointed, λ w. search each-part))))
   act-does (move m) l = move-does m (minus m)
   act-does alloc l =
       refuses 30 refl
@@ -335,7 +357,7 @@ module _ (g : Given) (Q : ℕ → Type 0) (lands : (j : ℕ) → Landing (g .ops
   unfolding exec
   exec-does (control c) is l = turn-does c is
   exec-does (load n) is l =
-      refuses 23 refl
+      cuts-short
       (λ e. grows (cells-long (s .pointer) n (s .tape) e) (cover-whole _ _) (λ f h. (omega (arith, covered f n h), f .pointed, λ w. search each-part)))
   exec-does (set k vs) is l = works refl (λ f h. (omega arith, f .pointed, λ w. search (below-words vs (h .1))))
   exec-does (plain p) is l = act-does p l
@@ -347,4 +369,4 @@ unfolding step op
 step-does g Q lands s =
     pick-gives ended
     (λ e. let within = leb-false _ _ (or-right (s .halted) _ e) in
-    bar-gives 21 (λ l. narrow within (ltb-true _ _ l)) (λ l. exec-does g Q lands s within (opAt (g .ops) (s .at)) refl (ltb-false _ _ l)))
+    lack-gives 21 _ (λ l. narrow within (ltb-true _ _ l)) (λ l. exec-does g Q lands s within (opAt (g .ops) (s .at)) refl (ltb-false _ _ l)))

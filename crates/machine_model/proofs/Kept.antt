@@ -46,7 +46,7 @@ module _ (g : Given) (lim : Limited (g .ops)) where
 
   -- and so does a run, however it ends
   pub run-formed : (b : ℕ) (s : State) → Formed g s → Formed g ((run g b s) .state)
-  run-formed b s f = run-keeps (λ n. Unit {0}) (Formed g) tt tt g (λ t n h e. tt) step-formed b s f .1
+  run-formed b s f = run-keeps (λ n. Unit {0}) (Formed g) tt tt g (λ t n l h e. tt) step-formed b s f .1
 
 -- the fresh state is well formed, for any patch, input, room and number of cells
 pub fresh-formed : (g : Given) (cells : ℕ) → Formed g (fresh cells)

@@ -29,7 +29,7 @@ module _ (g : Given) where
   step-whole s t w e = effect-whole s t _ w (next-gives (step g s) t (step-does g (λ j. Unit {0}) (λ j h. tt) s) e)
 
   pub run-whole : (b : ℕ) (s : State) → Whole (s .counted) → Whole (run g b s .state .counted)
-  run-whole b s w = run-keeps (λ n. Unit {0}) (λ t. Whole (t .counted)) tt tt g (λ t n h e. tt) step-whole b s w .1
+  run-whole b s w = run-keeps (λ n. Unit {0}) (λ t. Whole (t .counted)) tt tt g (λ t n l h e. tt) step-whole b s w .1
 
 -- ---- Alloc as before
 

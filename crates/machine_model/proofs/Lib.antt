@@ -9,3 +9,4 @@ pub mod Lengths
 pub mod WordsKept
 pub mod Refused
 pub mod Cases
+pub mod FirstMissing

@@ -29,7 +29,7 @@ module _ (g : Given) (lim : Limited (g .ops)) where
   -- and so does a run, however it ends
   pub run-words : (b : ℕ) (s : State) → Formed g s → Words g s → Words g ((run g b s) .state)
   run-words b s f w =
-      run-keeps (λ n. Unit {0}) (λ t. Formed g t × Words g t) tt tt g (λ t n h e. tt)
+      run-keeps (λ n. Unit {0}) (λ t. Formed g t × Words g t) tt tt g (λ t n l h e. tt)
       (λ t u h e. (step-formed g lim t u (h .0) e, step-words t u (h .0) (h .1) e)) b s (f, w) .1 .1
 
 -- the fresh state has words, where the input does

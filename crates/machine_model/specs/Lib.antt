@@ -3,6 +3,7 @@ pub mod State
 pub mod Scan
 pub mod Step
 pub mod Run
+pub mod Missing
 pub mod Formed
 pub mod Limited
 pub mod Words

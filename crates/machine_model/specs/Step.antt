@@ -1,5 +1,5 @@
 -- A step, op by op as 01-scope.md has them under 'A step'. The numbers of an op stand in the order in which they are tested, and a refused
--- step leaves nothing behind: it gives its number and no state. Assumes nothing.
+-- step leaves nothing behind: it gives its number, a lane by 02's ask 3, and no state. Assumes nothing.
 use Prim.Native.Nat.{ℕ, suc, _+_, _-_, _*_, _/_, _^_}
 use mathlib.Core.Bool.{Bool, true, false, cond, _&&_, _||_}
 use mathlib.Core.List.{List, [], _∷_, _++_, reverse}
@@ -24,16 +24,22 @@ use Rattle.testing_device.specs.declared.device.Poked.the-variants as poked
 use Rattle.machine_model.specs.State.{State, Given, depth, farthest, longest, firstBlock, lane0, goTo, withPointer, withCounted, withReg, withTape, withTable, withCalls, withRefs, withChannel, withTaken, withOuts, halt, on, setLane}
 use Rattle.machine_model.specs.Scan.{opAt, brackets, functions, toEnd, toElse, toOpen, kth}
 
--- what a step gives: the machine is finished, it is refused with a number, or it goes on in the next state
+-- what a step gives: the machine is finished, it is refused with a number and a lane, or it goes on in the next state
 pub data Outcome : Type 0 where
   finished : Outcome
-  refused : ℕ → Outcome
+  refused : ℕ → ℕ → Outcome
   next : State → Outcome
 
--- refuse with the number where the test holds
+-- refuse with the number where the test holds. 02, ask 3: "Refusals 21, 22 and 23 shall also give the first lane that could not be had", which
+-- is l
+unfoldable pub lack : Bool → ℕ → ℕ → Outcome → Outcome
+lack true n l o = refused n l
+lack false n l o = o
+
+-- "All other answers carry lane 0"
 unfoldable pub bar : Bool → ℕ → Outcome → Outcome
-bar true n o = refused n
-bar false n o = o
+unfolding lack
+bar b n o = lack b n 0 o
 
 -- below 0 as an integer
 abbrev pub minus : ℕ → Bool
@@ -48,7 +54,7 @@ enter p (q ∷ qs) = cond (ltb p q) (p ∷ q ∷ qs) (cond (eqb p q) (q ∷ qs) 
 
 -- go past the partner that a search gives, or 20
 abbrev pub jump : State → Option ℕ → Outcome
-jump s none = refused 20
+jump s none = refused 20 0
 jump s (some p) = next (goTo s (suc p))
 
 -- the enclosing End, and an If's Else or End, from the op after the position on
@@ -64,7 +70,7 @@ called s m = withCalls (goTo s (suc m)) (s .calls ++ (s .at ∷ []))
 
 -- "else the k-th mark from the start, counted from 0, entered in the table", or 29
 abbrev pub found : State → Option ℕ → Outcome
-found s none = refused 29
+found s none = refused 29 0
 found s (some m) = next (withTable (called s m) (enter m (s .table)))
 
 -- Return: "after the saved place; none saved, halt with position one on"
@@ -106,6 +112,10 @@ cover p n = cond (ltb p n) n (n + 100_000 * ((p - n) / 100_000 + 1))
 abbrev pub beyond : ℕ → ℕ → ℕ → Bool
 beyond p n l = ltb 0 n && ltb l (p + n)
 
+-- 02, ask 3: "the number of cells from the pointer to the end of the counted length or of the lent tape, 0 if none"
+abbrev pub ahead : ℕ → ℕ → ℕ
+ahead p l = l - p
+
 -- the n cells from the pointer on
 abbrev pub cells : State → ℕ → List ℕ
 cells s n = take n (drop (s .pointer) (s .tape))
@@ -123,7 +133,7 @@ derefTo s v =
 
 -- "Refer takes back the last saved: 27"
 abbrev pub referTo : State → List ℕ → Outcome
-referTo s [] = refused 27
+referTo s [] = refused 27 0
 referTo s (c ∷ cs) = next (on (withRefs (withPointer s (getD (c ∷ cs) (length cs) 0)) (take (length cs) (c ∷ cs))))
 
 -- "Move: 24, 25", down and up
@@ -140,7 +150,7 @@ grown n = cond (eqb n 0) firstBlock n
 
 -- what Get gives, or 35
 abbrev pub gotten : State → Got → Outcome
-gotten s got.Empty = refused (gotNumber got.Empty)
+gotten s got.Empty = refused (gotNumber got.Empty) 0
 gotten s (got.Value v place) = next (on (withTaken (setLane s v) place))
 
 -- outputs, "all or none": 36
@@ -149,7 +159,7 @@ write g s vs = bar (ltb (g .room) (length (s .outs) + length vs)) (putNumber put
 
 -- the channel's oldest value, or 33
 abbrev pub peekAt : State → List ℕ → Outcome
-peekAt s [] = refused (peekedNumber peeked.Empty)
+peekAt s [] = refused (peekedNumber peeked.Empty) 0
 peekAt s (v ∷ vs) = next (on (withChannel (setLane s v) vs))
 
 -- ---- the ops that keep the register's length
@@ -158,21 +168,21 @@ unfoldable pub act : Given → Plain → State → Outcome
 unfolding cellRule laneRule zipTo mapTo getOf putOf
 -- "Order 21 (Store), 23 (only if n > 0)"
 act g (store n) s =
-    bar (beyond (s .pointer) n (length (s .tape))) 23
+    lack (beyond (s .pointer) n (length (s .tape))) 23 (ahead (s .pointer) (length (s .tape)))
     (next (on (withCounted (withTape s (stored s n)) (cover (s .pointer + n) (s .counted)))))
--- "32, 23 (pointer not below the lent tape), 26, 25"
+-- "32, 23 (pointer not below the lent tape), 26, 25"; with no cell ahead, the lane of its 23 is 0
 act g deref s =
     bar (leb depth (length (s .refs))) 32
     (bar (leb (length (s .tape)) (s .pointer)) 23 (derefTo s (getD (s .tape) (s .pointer) 0)))
 act g refer s = referTo s (s .refs)
 -- "Other cell ops: 21, 22, 23"
 act g (cell k n) s =
-    bar (beyond (s .pointer) n (s .counted)) 22
-    (bar (beyond (s .pointer) n (length (s .tape))) 23
+    lack (beyond (s .pointer) n (s .counted)) 22 (ahead (s .pointer) (s .counted))
+    (lack (beyond (s .pointer) n (length (s .tape))) 23 (ahead (s .pointer) (length (s .tape)))
     (next (on (withReg s (zipTo (cellRule k) n (s .reg) (drop (s .pointer) (s .tape)))))))
 act g (swap n) s =
-    bar (beyond (s .pointer) n (s .counted)) 22
-    (bar (beyond (s .pointer) n (length (s .tape))) 23
+    lack (beyond (s .pointer) n (s .counted)) 22 (ahead (s .pointer) (s .counted))
+    (lack (beyond (s .pointer) n (length (s .tape))) 23 (ahead (s .pointer) (length (s .tape)))
     (next (on (withTape (withReg s (cells s n ++ drop n (s .reg))) (stored s n)))))
 act g (move m) s = moveBy s m (minus m)
 -- "21, 30; .. answer length - 1, then grow by lane 0", where the length is `grown`
@@ -199,7 +209,7 @@ unfolding turn act
 exec g (control c) s = turn g c s
 -- "Load makes the register n lanes. Order 21 (Store), 23 (only if n > 0)"
 exec g (load n) s =
-    bar (beyond (s .pointer) n (length (s .tape))) 23
+    lack (beyond (s .pointer) n (length (s .tape))) 23 (ahead (s .pointer) (length (s .tape)))
     (next (on (withCounted (withReg s (cells s n)) (cover (s .pointer + n) (s .counted)))))
 -- "Set: the register is its values"
 exec g (set k vs) s = next (on (withReg s vs))
@@ -209,9 +219,10 @@ exec g (plain p) s = act g p s
 unfoldable pub op : Given → State → Op
 op g s = opAt (g .ops) (s .at)
 
--- "Before each step: halted or at the end gives 0"; then 21, which is each op's first test
+-- "Before each step: halted or at the end gives 0"; then 21, which is each op's first test, with its lane by 02, ask 3: "for 21 the register's
+-- length"
 unfoldable pub step : Given → State → Outcome
 unfolding exec op
 step g s =
     pick (s .halted || leb (length (g .ops)) (s .at)) finished
-    (bar (ltb (length (s .reg)) (needs (op g s))) 21 (exec g (op g s) s))
+    (lack (ltb (length (s .reg)) (needs (op g s))) 21 (length (s .reg)) (exec g (op g s) s))

@@ -1,22 +1,47 @@
--- Where fewer than n cells can be had from a place on, n of them go beyond the last; where n, and not none, can be had, they do not. And the same
--- of one cell, by the place alone. Assumes nothing.
-use mathlib.Core.Path.{_≡_}
+-- Whether n cells can be had from a place on: an answer that is not `done` says that they go beyond the last, and its number and lane; `done`, where
+-- n is not 0, that they do not. Assumes nothing.
+use mathlib.Core.Path.{_≡_, refl}
 use mathlib.Core.Bool.{true, false}
-use Prim.Native.Nat.{ℕ, _+_, _-_, _≤_, _<_}
+use Prim.Native.Nat.{ℕ, _+_, _-_, _*_, _/_, _%_, _≤_, _<_}
 use native.Mathlib.Omega.{arith}
-use lib.Dec.{ltb}
-use borrow.Author.Tests.{lt-ltb, le-ltb}
+use lib.Dec.{eqb, ltb}
+use borrow.Author.Tests.{lt-ltb, le-ltb, ltb-true, ltb-false, ne-eqb, eqb-false}
+use Rattle.basics.specs.Pick.{pick}
+use Rattle.basics.proofs.Tests.{byCase}
+use Rattle.machine_numbers.specs.declared.numbers.Numbers.{Numbers}
+use Rattle.machine_numbers.specs.Numbers.{lacking, atPosition, withLane, having, left, stepped}
 
-module _ (l at n r : ℕ) (e : r ≡ l - at) where
-  pub too-few : r < n → ltb l (at + n) ≡ true
-  too-few h = lt-ltb l (at + n) (omega arith)
+-- what a refusal with a lane leaves, of an op and of a step
+module _ (m l : ℕ) (few : 2 < m) (small : m < 64) where
+  pub left-lacking : (at : ℕ) (p : Numbers) → left (withLane m l) at p ≡ lacking m l (atPosition p at)
+  unfolding left pick
+  left-lacking at p =
+      let n : (m + 64 * l) % 64 ≡ m = omega arith in
+      let d : (m + 64 * l) / 64 ≡ l = omega arith in
+      rw (ne-eqb (m + 64 * l) 0 (λ e. omega arith), ne-eqb (m + 64 * l) 1 (λ e. omega arith), ne-eqb (m + 64 * l) 2 (λ e. omega arith), n, d) refl
 
-  pub enough : (n ≡ 0 → ⊥) → n ≤ r → ltb l (at + n) ≡ false
-  enough z h = le-ltb l (at + n) (omega arith)
+  pub stepped-lacking : (p : Numbers) → stepped (withLane m l) p ≡ lacking m l p
+  unfolding stepped pick
+  stepped-lacking p =
+      let n : (m + 64 * l) % 64 ≡ m = omega arith in
+      let d : (m + 64 * l) / 64 ≡ l = omega arith in
+      rw (ne-eqb (m + 64 * l) 2 (λ e. omega arith), n, d) refl
 
-module _ (l at : ℕ) where
-  pub beyond : l ≤ at → ltb l (at + 1) ≡ true
-  beyond h = lt-ltb l (at + 1) (omega arith)
+module _ (m l at n : ℕ) where
+  some : l - at < n → eqb n 0 ≡ false
+  some h = ne-eqb n 0 (λ e. omega arith)
 
-  pub within : at < l → ltb l (at + 1) ≡ false
-  within h = le-ltb l (at + 1) (omega arith)
+  pub lacked : (having m l at n ≡ 0 → ⊥) → (eqb n 0 ≡ false) × (ltb l (at + n) ≡ true) × (having m l at n ≡ withLane m (l - at))
+  unfolding having pick
+  lacked h =
+      byCase (ltb (l - at) n)
+      (λ e. let w = ltb-true (l - at) n e in (some w, lt-ltb l (at + n) (omega arith), rw e refl))
+      (λ e. absurd (h (rw e refl)))
+
+  pub enough : 0 < m → eqb n 0 ≡ false → having m l at n ≡ 0 → ltb l (at + n) ≡ false
+  unfolding having pick
+  enough few z h =
+      let z = eqb-false n 0 z in
+      byCase (ltb (l - at) n)
+      (λ e. absurd (let w = rw e at h in omega arith))
+      (λ e. let w = ltb-false (l - at) n e in le-ltb l (at + n) (omega arith))

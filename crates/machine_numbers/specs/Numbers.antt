@@ -1,8 +1,8 @@
 -- The machine's numbers with one of them changed, and what each family of ops may change. Assumes nothing.
 use mathlib.Core.Bool.{Bool, true, false}
 use mathlib.Core.List.{List}
-use Prim.Native.Nat.{ℕ, _+_}
-use lib.Dec.{eqb}
+use Prim.Native.Nat.{ℕ, _+_, _-_, _*_, _/_, _%_}
+use lib.Dec.{eqb, ltb}
 use Rattle.basics.specs.Pick.{pick}
 use Rattle.machine_numbers.specs.declared.numbers.Numbers.{Numbers}
 
@@ -42,13 +42,17 @@ halt p = record { depth = p .depth; saved = p .saved; pointer = p .pointer; posi
 abbrev pub next : Numbers → Numbers
 next p = atPosition p (p .position + 1)
 
--- what an op leaves: 0, or the refusal's number, and the numbers after it
+-- what an op leaves: 0, or the refusal's number and the first lane that could not be had, and the numbers after it
 pub record OpAnswer : Type 0 where
   pub number : ℕ
+  pub lane : ℕ
   pub numbers : Numbers
 
+abbrev pub lacking : ℕ → ℕ → Numbers → OpAnswer
+lacking n l p = record { number = n; lane = l; numbers = p }
+
 abbrev pub answered : ℕ → Numbers → OpAnswer
-answered n p = record { number = n; numbers = p }
+answered n p = lacking n 0 p
 
 -- the numbers, one by one
 abbrev pub gathered : ℕ → ℕ → ℕ → ℕ → ℕ → ℕ → ℕ → ℕ → ℕ → ℕ → ℕ → Bool → Numbers
@@ -60,7 +64,7 @@ abbrev pub running : ℕ → ℕ → ℕ → ℕ → ℕ → ℕ → ℕ → ℕ
 running d s p q l n f i w t o = gathered d s p q l n f i w t o false
 
 -- what an op answers that is done and goes on to the next op, one that has set the position, and a Return that halts; a refused one answers the
--- refusal's number
+-- refusal's number, and the lane in the same number
 abbrev pub done : ℕ
 done = 0
 
@@ -70,13 +74,25 @@ jumping = 1
 abbrev pub halting : ℕ
 halting = 2
 
+abbrev pub withLane : ℕ → ℕ → ℕ
+withLane n l = n + 64 * l
+
+-- refused with a
+abbrev pub refusedBy : ℕ → Numbers → OpAnswer
+refusedBy a p = lacking (a % 64) (a / 64) p
+
+-- whether n of l cells can be had from the place `at` on: done, or else the number m with the first that can not
+unfoldable pub having : ℕ → ℕ → ℕ → ℕ → ℕ
+unfolding pick
+having m l at n = pick (ltb (l - at) n) (withLane m (l - at)) done
+
 -- what an op at the place `at` leaves that answers a; p has the numbers that it has set
 unfoldable pub left : ℕ → ℕ → Numbers → OpAnswer
 unfolding pick
 left a at p =
     pick (eqb a done) (answered 0 (atPosition p (at + 1)))
     (pick (eqb a jumping) (answered 0 p)
-    (pick (eqb a halting) (answered 0 (atPosition (halt p) (at + 1))) (answered a (atPosition p at))))
+    (pick (eqb a halting) (answered 0 (atPosition (halt p) (at + 1))) (refusedBy a (atPosition p at))))
 
 -- of an op that is not lent the position
 abbrev pub onward : ℕ → Numbers → OpAnswer
@@ -85,7 +101,7 @@ onward a p = left a (p .position) p
 -- what a step leaves that answers a: halting is an answer, and not yet among the numbers p
 unfoldable pub stepped : ℕ → Numbers → OpAnswer
 unfolding pick
-stepped a p = pick (eqb a halting) (answered 0 (halt p)) (answered a p)
+stepped a p = pick (eqb a halting) (answered 0 (halt p)) (refusedBy a p)
 
 -- the ops that steer: calls and function table
 pub record Steered : Type 0 where

@@ -5,14 +5,15 @@ use mathlib.Core.List.{List}
 use Prim.Native.Nat.{ℕ, zero, suc, _+_, _-_, _≤_, _<_}
 use native.Mathlib.Omega.{arith}
 use native.Mathlib.Numerals.{add-one}
-use lib.Dec.{leb}
+use lib.Dec.{leb, eqb}
 use lib.ListN.{length, getD}
 use mir.Val
 use mir.Syntax.{w8}
-use borrow.Author.Tests.{leb-false, le-leb, lt-leb, eq-eqb, ne-eqb, eqb-false}
+use borrow.Author.Tests.{leb-false, le-leb, lt-leb, eq-eqb, ne-eqb, eqb-true, eqb-false}
 use Rattle.basics.specs.Pick.{pick}
 use Rattle.basics.proofs.Tests.{byCase, or-right}
 use Rattle.basics.specs.Limits.{mostOps}
+use Rattle.answers.specs.declared.run.Answer.{Answer}
 use Rattle.answers.specs.declared.run.Answer.the-variants.{Finished, Spent, Refused}
 use Rattle.ops.specs.Patch.{patchOf}
 use Rattle.file_laws.proofs.Items.{few-items}
@@ -20,7 +21,7 @@ use Rattle.machine_model.specs.Step.{Outcome, step}
 use Rattle.machine_model.specs.Step.Outcome.{next}
 use Rattle.partners.specs.Columns.{Stored}
 use Rattle.machine_numbers.specs.declared.numbers.Numbers.{Numbers}
-use Rattle.machine_numbers.specs.Numbers.{OpAnswer, answered, halt, gathered, running, stepped}
+use Rattle.machine_numbers.specs.Numbers.{OpAnswer, answered, halt, halting, refusedBy, gathered, running, stepped}
 use Rattle.machine_step.specs.Held.{Held, held, After, after, Code}
 use Rattle.machine_step.specs.Step.{stepOf}
 use Rattle.bridge.specs.View.{view, laid}
@@ -34,7 +35,7 @@ use Rattle.bridge.proofs.Steps.{step-is}
 use Rattle.bridge.proofs.Real.{Real, step-real}
 use Rattle.bridge.proofs.Real.Real.{goes, stops}
 use Rattle.bridge.proofs.Runs.{step-fits}
-use Rattle.machine_run.specs.Ready.{ReadyToRun, overOf}
+use Rattle.machine_run.specs.Ready.{ReadyToRun, overOf, endedBy, madeBy}
 
 -- ---- the four ways through a turn
 
@@ -55,7 +56,7 @@ module _ (x : Code) (input : List ℕ) (c : Held) where
       run-on zero k z a = absurd (z refl)
       run-on (suc b) k z a = let d : suc b - 1 ≡ b = omega arith in rw (e, ← q, eq-eqb (o .number) 0 a, add-one k, d) refl
 
-      pub run-refused : (b k : ℕ) → (b ≡ 0 → ⊥) → (o .number ≡ 0 → ⊥) → runOf b k x input c ≡ ran (Refused (o .number)) k (o .held)
+      pub run-refused : (b k : ℕ) → (b ≡ 0 → ⊥) → (o .number ≡ 0 → ⊥) → runOf b k x input c ≡ ran (Refused (o .number) (o .lane)) k (o .held)
       unfolding runOf pick overOf
       run-refused zero k z a = absurd (z refl)
       run-refused (suc b) k z a = rw (e, ← q, ne-eqb (o .number) 0 a) refl
@@ -87,7 +88,11 @@ module _ (s input : List ℕ) (c : Held) (h : Fits s input c) where
     fits-on : Bytes s → (z : Outcome) → Real z → step (givenTo s input c) (view c) ≡ z
         → (o : After) → o ≡ laid c z → o .number ≡ 0 → Fits s input (o .held)
     fits-on b _ (goes t) r o q a = subst (λ (d : After). Fits s input (d .held)) (sym q) (step-fits s input b t c h r)
-    fits-on b _ (stops n z) r o q a = absurd (eqb-false n 0 z (sym (ap (λ (d : After). d .number) q) ∙ a))
+    fits-on b _ (stops n l z) r o q a = absurd (eqb-false n 0 z (sym (ap (λ (d : After). d .number) q) ∙ a))
+
+    no-lane : (z : Outcome) → Real z → (o : After) → o ≡ laid c z → o .number ≡ 0 → o .lane ≡ 0
+    no-lane _ (goes t) o q a = ap (λ (d : After). d .lane) q
+    no-lane _ (stops n l z) o q a = absurd (eqb-false n 0 z (sym (ap (λ (d : After). d .number) q) ∙ a))
 
 -- the op at the position is one of the patch's
 pub op-here : (s input : List ℕ) (x : Code) (c : Held) → ReadyToRun s input x c → overOf (c .numbers) (length (x .rows)) ≡ false
@@ -114,17 +119,23 @@ step-asks s input x c h e =
       subst (λ (y : Code). Stored (y .rows) (y .partners) (y .turns) (y .marks)) (sym (h .read)) (places-stored s),
     )
 
--- what a step leaves where it goes on is good and well formed
-pub going-on : (s input : List ℕ) (x : Code) (c : Held) → Bytes s → ReadyToRun s input x c → overOf (c .numbers) (length (x .rows)) ≡ false
-    → (o : After) → o ≡ stepOf x input c → o .number ≡ 0 → ReadyToRun s input x (o .held)
-going-on s input x c b h e o q a =
-    let e : overOf (c .numbers) (length (codeOf s .rows)) ≡ false = subst (λ (y : Code). overOf (c .numbers) (length (y .rows)) ≡ false) (h .read) e in
-    let q : o ≡ stepOf (codeOf s) input c = q ∙ ap (λ (y : Code). stepOf y input c) (h .read) in
-    record {
-      good = h .good;
-      read = h .read;
-      fits = fits-on s input c (h .fits) e b _ (step-real (givenTo s input c) (view c) (over-is s input c (h .fits) ∙ e)) refl o (q ∙ steps s input c (h .fits) e) a;
-    }
+module _ (s input : List ℕ) (x : Code) (c : Held) (h : ReadyToRun s input x c) (e : overOf (c .numbers) (length (x .rows)) ≡ false) (o : After) (q : o ≡ stepOf x input c) where
+  not-over : overOf (c .numbers) (length (codeOf s .rows)) ≡ false
+  not-over = subst (λ (y : Code). overOf (c .numbers) (length (y .rows)) ≡ false) (h .read) e
+
+  real : Real (step (givenTo s input c) (view c))
+  real = step-real (givenTo s input c) (view c) (over-is s input c (h .fits) ∙ not-over)
+
+  as-laid : o ≡ laid c (step (givenTo s input c) (view c))
+  as-laid = q ∙ ap (λ (y : Code). stepOf y input c) (h .read) ∙ steps s input c (h .fits) not-over
+
+  -- what a step leaves where it goes on is good and well formed
+  pub going-on : Bytes s → o .number ≡ 0 → ReadyToRun s input x (o .held)
+  going-on b a = record { good = h .good; read = h .read; fits = fits-on s input c (h .fits) not-over b _ real refl o as-laid a }
+
+  -- and no lane is missing there
+  pub went-whole : o .number ≡ 0 → o .lane ≡ 0
+  went-whole a = no-lane s input c (h .fits) not-over _ real o as-laid a
 
 -- ---- the loop of `go`
 
@@ -156,10 +167,10 @@ module _ {s input : List ℕ} {x : Code} {budget : ℕ} {from c : Held} {left : 
     all-spent z = sym (run-spent x input c e left (budget - left) z) ∙ i .same
 
     module _ (z : left ≡ 0 → ⊥) (o : After) (q : o ≡ stepOf x input c) where
-      pub refused-at : (o .number ≡ 0 → ⊥) → ran (Refused (o .number)) (budget - left) (o .held) ≡ runOf budget 0 x input from
+      refused-at : (o .number ≡ 0 → ⊥) → ran (Refused (o .number) (o .lane)) (budget - left) (o .held) ≡ runOf budget 0 x input from
       refused-at a = sym (run-refused x input c e o q left (budget - left) z a) ∙ i .same
 
-      pub halted-at : o .number ≡ 0 → overOf (o .held .numbers) (length (x .rows)) ≡ true → ran Finished (budget - left + 1) (o .held) ≡ runOf budget 0 x input from
+      halted-at : o .number ≡ 0 → overOf (o .held .numbers) (length (x .rows)) ≡ true → ran Finished (budget - left + 1) (o .held) ≡ runOf budget 0 x input from
       halted-at a h = sym (run-done x input (o .held) (left - 1) (budget - left + 1) h) ∙ run-on x input c e o q left (budget - left) z a ∙ i .same
 
       -- and on
@@ -169,7 +180,7 @@ module _ {s input : List ℕ} {x : Code} {budget : ℕ} {from c : Held} {left : 
         onward g t ts ch w =
             let k : budget - (left - 1) ≡ budget - left + 1 = omega (arith, i .within, z) in
             record {
-              ready = going-on s input x c b (i .ready) e o q a;
+              ready = going-on s input x c (i .ready) e o q b a;
               register = g ∙ i .register;
               tape = t ∙ i .tape;
               table = ts ∙ i .table;
@@ -189,13 +200,36 @@ module _ (a : ℕ) (p : Numbers) where
   unfolding stepped pick
   went e = rw e refl
 
-  pub halted : a ≡ 2 → stepped a p ≡ answered 0 (halt p)
+  halted : a ≡ 2 → stepped a p ≡ answered 0 (halt p)
   unfolding stepped pick
   halted e = rw e refl
 
-  pub refused : (a ≡ 2 → ⊥) → stepped a p ≡ answered a p
+  refused : (a ≡ 2 → ⊥) → stepped a p ≡ refusedBy a p
   unfolding stepped pick
   refused n = rw (ne-eqb a 2 n) refl
+
+pub over-halted : (p : Numbers) (n : ℕ) → p .halted ≡ true → overOf p n ≡ true
+unfolding overOf
+over-halted p n e = rw e refl
+
+-- a step that answers a, which is not `done`, is the last
+pub stopped-at : {s input : List ℕ} {x : Code} {budget : ℕ} {from c : Held} {left : ℕ} → Running s input x budget from c left → overOf (c .numbers) (length (x .rows)) ≡ false
+    → (left ≡ 0 → ⊥) → {a d v p q l n f i w t o : ℕ} {cs rs g ta ts ch out : List ℕ}
+    → after (stepped a (running d v p q l n f i w t o)) cs rs g ta ts ch out ≡ stepOf x input c → (a ≡ 0 → ⊥)
+    → {r : Answer} {k : ℕ} {m : Numbers} → r ≡ endedBy a → k ≡ madeBy a → m ≡ gathered d v p q l n f i w t o (eqb a halting)
+    → ran r (budget - left + k) (held m cs rs g ta ts ch out) ≡ runOf budget 0 x input from
+unfolding endedBy madeBy pick
+stopped-at {s} {input} {x} {budget} {c = c} {left = left} run e z {a} {d} {v} {p} {q} {l} {n} {f} {i} {w} {t} {o} b h er ek em =
+    let m = running d v p q l n f i w t o in
+    byCase (eqb a 2)
+    (λ y. rw (er, ek, em, y) (halted-at run e z _ (as-answered (halted a m (eqb-true a 2 y)) b) refl (over-halted (halt m) _ refl)))
+    (λ y. let b = as-answered (refused a m (eqb-false a 2 y)) b in
+    let u : budget - left + 0 ≡ budget - left = omega arith in
+    rw (er, ek, em, y, u) (refused-at run e z _ b (λ r. h (let j = went-whole s input x c (run .ready) e _ b r in omega (arith, r, j)))))
+
+pub made-few : (a : ℕ) → madeBy a ≤ 1
+unfolding madeBy pick
+made-few a = byCase (eqb a 2) (λ e. rw e (omega arith)) (λ e. rw e (omega arith))
 
 -- ---- the numbers of a machine that is not halted, one by one
 
@@ -218,10 +252,6 @@ open-at-first {s} {input} {x} {c} budget h e = begin budget (subst (λ (d : Held
 pub from-first : (x : Code) (input : List ℕ) (budget : ℕ) (c : Held) (r : Ran) → c .numbers .halted ≡ false
     → r ≡ runOf budget 0 x input (opened c) → r ≡ runOf budget 0 x input c
 from-first x input budget c r e w = w ∙ ap (λ (d : Held). runOf budget 0 x input d) (sym (same-opened c e))
-
-pub over-halted : (p : Numbers) (n : ℕ) → p .halted ≡ true → overOf p n ≡ true
-unfolding overOf
-over-halted p n e = rw e refl
 
 module _ (p : Numbers) (n : ℕ) (e : p .halted ≡ false) where
   pub over-past : n ≤ p .position → overOf p n ≡ true

@@ -1,13 +1,17 @@
 -- A patch that is read and a state that is well formed, and where its steps end. Assumes nothing.
 use mathlib.Core.Path.{_≡_}
 use mathlib.Core.List.{List, map}
-use Prim.Native.Nat.{ℕ}
+use Prim.Native.Nat.{ℕ, _/_, _%_}
 use Rattle.ops.specs.Patch.{patchOf, rowIn, countIn, needIn, payloadIn}
 use Rattle.machine_step.specs.Held.{Held, Code}
 use Rattle.bridge.specs.Decoded.{codeOf}
 use Rattle.bridge.specs.Fits.{Fits}
-use lib.Dec.{leb}
+use lib.Dec.{leb, eqb}
 use mathlib.Core.Bool.{Bool, _||_}
+use Rattle.basics.specs.Pick.{pick}
+use Rattle.answers.specs.declared.run.Answer.{Answer}
+use Rattle.answers.specs.declared.run.Answer.the-variants.{Finished, Refused}
+use Rattle.machine_numbers.specs.Numbers.{halting}
 use Rattle.machine_numbers.specs.declared.numbers.Numbers.{Numbers}
 
 -- the file s is good, and these are the columns of its ops
@@ -32,3 +36,12 @@ pub record ReadyToRun (s input : List ℕ) (x : Code) (c : Held) : Type 0 where
 -- halted, or past the last of n ops
 unfoldable pub overOf : Numbers → ℕ → Bool
 overOf p n = p .halted || leb n (p .position)
+
+-- the answer of a run whose last step answers a, which is not `done`, and the steps that it made: one that halts
+unfoldable pub endedBy : ℕ → Answer
+unfolding pick
+endedBy a = pick (eqb a halting) Finished (Refused (a % 64) (a / 64))
+
+unfoldable pub madeBy : ℕ → ℕ
+unfolding pick
+madeBy a = pick (eqb a halting) 1 0

@@ -2,7 +2,7 @@
 ghost use mathlib.Core.Path.{_≡_};
 ghost use Rattle.machine_step.specs.Held.{held, code};
 ghost use Rattle.bridge.specs.Run.{ran, runOf};
-ghost use Rattle.machine_run.specs.Ready.{ReadyToRun};
+ghost use Rattle.machine_run.specs.Ready.{ReadyToRun, endedBy, madeBy};
 use answers::run::Answer;
 use machine_numbers::numbers::DONE;
 use machine_numbers::numbers::HALTED;
@@ -13,6 +13,26 @@ pub struct Ended {
     pub answer: Answer,
     pub steps: u32,
     pub numbers: Numbers,
+}
+
+// What a step answers that does not go on: it halted, or is refused with a number and a lane.
+fn answer_of(a: u32) -> Answer
+    ensures { λ r. ⌜ r ≡ endedBy a ⌝ }
+{
+    if a == HALTED {
+        return Answer::Finished;
+    }
+    Answer::Refused(a % 64, a / 64)
+}
+
+// How many steps it made: one that halts.
+fn halting(a: u32) -> u32
+    ensures { λ r. ⌜ r ≡ madeBy a ⌝ }
+{
+    if a == HALTED {
+        return 1;
+    }
+    0
 }
 
 // Steps until the machine is finished, the budget is spent or a step is refused.
@@ -129,29 +149,10 @@ pub fn go(
             output,
         );
         if a != DONE {
-            if a == HALTED {
-                return Ended {
-                    answer: Answer::Finished,
-                    steps: budget - left + 1,
-                    numbers: Numbers::gather(
-                        depth,
-                        saved,
-                        pointer,
-                        position,
-                        counted,
-                        lanes,
-                        functions,
-                        first,
-                        waiting,
-                        taken,
-                        written,
-                        true,
-                    ),
-                };
-            }
+            let made = budget - left;
             return Ended {
-                answer: Answer::Refused(a),
-                steps: budget - left,
+                answer: answer_of(a),
+                steps: made + halting(a),
                 numbers: Numbers::gather(
                     depth,
                     saved,
@@ -164,7 +165,7 @@ pub fn go(
                     waiting,
                     taken,
                     written,
-                    false,
+                    a == HALTED,
                 ),
             };
         }

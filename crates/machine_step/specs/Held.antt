@@ -30,13 +30,14 @@ abbrev pub held : Numbers → List ℕ → List ℕ → List ℕ → List ℕ �
 held p cs rs g t ts ch o =
     record { numbers = p; calls = cs; refs = rs; register = g; tape = t; table = ts; channel = ch; output = o }
 
--- what a step leaves: 0 or the refusal's number, and all that the machine holds
+-- what a step leaves: 0, or the refusal's number and its lane, and all that the machine holds
 pub record After : Type 0 where
   pub number : ℕ
+  pub lane : ℕ
   pub held : Held
 
 abbrev pub after : OpAnswer → List ℕ → List ℕ → List ℕ → List ℕ → List ℕ → List ℕ → List ℕ → After
-after h cs rs g t ts ch o = record { number = h .number; held = held (h .numbers) cs rs g t ts ch o }
+after h cs rs g t ts ch o = record { number = h .number; lane = h .lane; held = held (h .numbers) cs rs g t ts ch o }
 
 -- a family's answer among the lists that it leaves alone
 abbrev pub steering : Held → Steered → After

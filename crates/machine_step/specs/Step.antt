@@ -26,10 +26,10 @@ opOf k n a ks bs input c =
     (pick (eqb (familyOf k) swapFamily) (swapping c (swapOf n (c .numbers) (c .register) (c .tape)))
     (taping c (tapeOf k n a (c .numbers) (c .refs) (c .register) (c .tape) bs)))))))
 
--- the op at the position; 21 where the register has fewer lanes than it needs
+-- the op at the position; 21 where the register has fewer lanes than it needs, with the lanes that it has
 unfoldable pub stepOf : Code → List ℕ → Held → After
 unfolding pick
 stepOf x input c =
     let at = c .numbers .position in
-    pick (ltb (c .numbers .lanes) (getD (x .needs) at 0)) (record { number = 21; held = c })
+    pick (ltb (c .numbers .lanes) (getD (x .needs) at 0)) (record { number = 21; lane = c .numbers .lanes; held = c })
     (opOf (getD (x .rows) at 0) (getD (x .counts) at 0) (getD (x .payloads) at 0) (x .rows) (x .bytes) input c)

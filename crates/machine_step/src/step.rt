@@ -13,6 +13,7 @@ use control_ops::control;
 use device_ops::device;
 use kind_table::row;
 use lane_ops::lane;
+use machine_numbers::cells::with_lane;
 use machine_numbers::numbers::DONE;
 use machine_numbers::numbers::HALTED;
 use machine_numbers::numbers::JUMPED;
@@ -148,8 +149,9 @@ pub fn step(
 {
     let at = *position;
     let d = wide_short(needs[at]);
-    if *lanes < d {
-        return 21;
+    let has = *lanes;
+    if has < d {
+        return with_lane(21, has);
     }
     let k = rows[at];
     let n = wide_short(counts[at]);

@@ -21,6 +21,7 @@ use crate::state::machine_at;
 use crate::state::same_machine;
 use crate::tell::Tell;
 use answers::run::Answer;
+use answers::run::lane_of;
 use answers::run::number_of;
 use answers::run::place_of;
 use machine::machine::Machine;
@@ -34,6 +35,9 @@ pub const FRESH: u8 = 1;
 
 pub const STEP: u8 = 5;
 
+// The bytes of an answer before its machine: number, steps, place and lane.
+const ANSWER: usize = 16;
+
 // What is handed a state has its machine before its answer.
 fn at_answer(case: &[u8], sort: u8, at: usize) -> usize {
     if sort == FRESH {
@@ -44,7 +48,7 @@ fn at_answer(case: &[u8], sort: u8, at: usize) -> usize {
 
 // Where the contents are that are expected beside the answer at a place.
 fn at_contents(case: &[u8], at: usize) -> usize {
-    after_machine(case, after(case, at, 12))
+    after_machine(case, after(case, at, ANSWER))
 }
 
 fn same_answer(tell: Tell, case: &[u8], at: usize, r: Ran) -> bool {
@@ -58,7 +62,8 @@ fn same_answer(tell: Tell, case: &[u8], at: usize, r: Ran) -> bool {
             word_on(case, at, 8),
             place_of(answer, numbers.position),
         )
-        && same_machine(tell, case, after(case, at, 12), m)
+        && tell.same(b"lane", word_on(case, at, 12), lane_of(answer))
+        && same_machine(tell, case, after(case, at, ANSWER), m)
 }
 
 // The budget of a case, which is at most the machine's.

@@ -10,7 +10,7 @@ use Rattle.lane_loops.specs.Loops.{zipTo, beside}
 use Rattle.byte_fields.specs.Bytes.{u64At, valuesAt}
 use Rattle.byte_fields.specs.Storage.{fill}
 use Rattle.machine_numbers.specs.Parts.{copied}
-use Rattle.machine_numbers.specs.Numbers.{atPointer, ofLength, ofLanes, ofSaved, next, answered, OneList, oneList, Taped, taped, OpAnswer}
+use Rattle.machine_numbers.specs.Numbers.{atPointer, ofLength, ofLanes, ofSaved, next, lacking, answered, OneList, oneList, Taped, taped, OpAnswer}
 use Rattle.machine_numbers.specs.declared.numbers.Numbers.{Numbers}
 
 abbrev pub growth : ℕ
@@ -30,14 +30,14 @@ unfoldable pub loadOf : ℕ → Numbers → List ℕ → List ℕ → OneList
 unfolding pick
 loadOf n p g t =
     pick (eqb n 0) (oneList (answered 0 (next (ofLanes (ofLength p (reach (p .length) (p .pointer + n))) n))) g)
-    (pick (ltb (length t) (p .pointer + n)) (oneList (answered 23 p) g)
+    (pick (ltb (length t) (p .pointer + n)) (oneList (lacking 23 (length t - p .pointer) p) g)
     (oneList (answered 0 (next (ofLanes (ofLength p (reach (p .length) (p .pointer + n))) n))) (zipTo beside n g (drop (p .pointer) t))))
 
 unfoldable pub storeOf : ℕ → Numbers → List ℕ → List ℕ → OneList
 unfolding pick
 storeOf n p g t =
     pick (eqb n 0) (oneList (answered 0 (next (ofLength p (reach (p .length) (p .pointer + n))))) t)
-    (pick (ltb (length t) (p .pointer + n)) (oneList (answered 23 p) t)
+    (pick (ltb (length t) (p .pointer + n)) (oneList (lacking 23 (length t - p .pointer) p) t)
     (oneList (answered 0 (next (ofLength p (reach (p .length) (p .pointer + n))))) (copied t (p .pointer) g n)))
 
 -- "Move: 24, 25", by the signed amount that the pattern a has

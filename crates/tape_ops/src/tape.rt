@@ -8,7 +8,7 @@ ghost use Rattle.machine_numbers.specs.declared.numbers.Numbers.{Numbers};
 ghost use Rattle.machine_numbers.specs.Numbers.{atPointer, ofLength, ofLanes, ofSaved, onward, oneList};
 ghost use Rattle.tape_ops.specs.Tape.{reach, setOf, loadOf, storeOf, moveOf, whereOf, derefOf, referOf, stocked, allocOf};
 use basics::wide::wide_int;
-use machine_numbers::cells::had;
+use machine_numbers::cells::have;
 use machine_numbers::numbers::DONE;
 use machine_numbers::numbers::Numbers;
 use machine_numbers::numbers::SIGN;
@@ -76,8 +76,9 @@ pub fn load(
 {
     let l = *counted;
     if n == 1 {
-        if tape.len() <= at {
-            return 23;
+        let r = have(23, tape.len(), at, 1);
+        if r != DONE {
+            return r;
         }
         lane_loops::loops::copy_one(register, &tape[at..]);
         *lanes = n;
@@ -89,8 +90,9 @@ pub fn load(
         *counted = grow(l, at + n);
         return DONE;
     }
-    if had(tape.len(), at) < n {
-        return 23;
+    let r = have(23, tape.len(), at, n);
+    if r != DONE {
+        return r;
     }
     lane_loops::loops::copy_lanes(register, &tape[at..], n);
     *lanes = n;
@@ -104,8 +106,9 @@ pub fn store(n: usize, at: usize, counted: &mut usize, register: &[u64], tape: &
 {
     let l = *counted;
     if n == 1 {
-        if tape.len() <= at {
-            return 23;
+        let r = have(23, tape.len(), at, 1);
+        if r != DONE {
+            return r;
         }
         lane_loops::loops::copy_one(&mut tape[at..], register);
         *counted = grow(l, at + n);
@@ -115,8 +118,9 @@ pub fn store(n: usize, at: usize, counted: &mut usize, register: &[u64], tape: &
         *counted = grow(l, at + n);
         return DONE;
     }
-    if had(tape.len(), at) < n {
-        return 23;
+    let r = have(23, tape.len(), at, n);
+    if r != DONE {
+        return r;
     }
     lane_loops::loops::copy_lanes(&mut tape[at..], register, n);
     *counted = grow(l, at + n);

@@ -11,6 +11,7 @@ feltcairn-run-fresh-spec =
     (λ c κs. search needs)
     (λ c κs. search needs)
     (λ c κs. search needs)
+    (λ c κs. search needs)
     (λ c. search needs)
     (λ c. search needs)
     (λ c κs. search needs)
@@ -20,4 +21,8 @@ feltcairn-run-fresh-spec =
     (λ c. search needs)
     (λ c. search needs)
     (λ c. search needs)
-    (λ c. rw (← c .before .before .before .before .before .before .before .before .before .before .before .before .before .before .before .before .before .before .run-fresh .ensures, c .before .before .tell .ensures, c .before .before .before .before .before .before .number-of .ensures, c .before .before .before .before .before .place-of .ensures) refl))
+    (λ c.
+    let l = c .before .before .before .before .before in
+    let n = l .before .before in
+    let r = n .before .before .before .before .before .before .before .before .before .before .before .before in
+    rw (← r .run-fresh .ensures, c .before .before .tell .ensures, n .number-of .ensures, l .before .place-of .ensures, l .lane-of .ensures) refl))

@@ -4,7 +4,7 @@ use native.Mathlib.Omega.{arith}
 use borrow.Author.Needs.{needs}
 use Rattle.machine_numbers.specs.Numbers.{running}
 use Rattle.machine_step.specs.Held.{held, code}
-use Rattle.machine_run.proofs.RunLoop.{run-done, step-asks, bytes-of, Running, ended, all-spent, refused-at, halted-at, onward, as-answered, went, halted, refused, open-at-first, from-first, over-halted, over-past, over-before}
+use Rattle.machine_run.proofs.RunLoop.{run-done, step-asks, bytes-of, Running, ended, all-spent, stopped-at, made-few, onward, as-answered, went, open-at-first, from-first, over-halted, over-past, over-before}
 use Rattle.machine_run.proofs.going.go.Statement.{statement}
 use Rattle.machine_run.proofs.going.go.Tie as tie
 
@@ -49,25 +49,13 @@ step-requires c κs =
 
 returns-4 : tie.Need-returns-4 Inv-loop μ-loop
 returns-4 c =
-    let d = c .before .before .before .before .before .before .before .before .before .before .before .before .before in
+    let d = c .before .before .before .before .before .before .before .before .before .before .before .before .before .before in
     let z′ = d .before .before .before .before .before .before .before .before .before .before .before .before .before .before .before in
     let z = z′ .before .before .before .before in
     let l = z .before .before in
-    rw (c .gather3 .ensures)
-    (from-first _ _ _ _ _ (l .before .if1 .left)
-    (halted-at (l .loop .inv) (over-before _ _ refl (z .before .if2 .left)) (z .if3 .left) _
-    (as-answered (halted _ _ (c .before .if5 .taken)) (d .step .ensures)) refl (over-halted _ _ refl)))
-
-returns-5 : tie.Need-returns-5 Inv-loop μ-loop
-returns-5 c =
-    let d = c .before .before .before .before .before .before .before .before .before .before .before .before .before in
-    let z′ = d .before .before .before .before .before .before .before .before .before .before .before .before .before .before .before in
-    let z = z′ .before .before .before .before in
-    let l = z .before .before in
-    rw (c .gather4 .ensures)
-    (from-first _ _ _ _ _ (l .before .if1 .left)
-    (refused-at (l .loop .inv) (over-before _ _ refl (z .before .if2 .left)) (z .if3 .left) _
-    (as-answered (refused _ _ (c .before .if5 .left)) (d .step .ensures)) (c .before .before .if4 .taken)))
+    from-first _ _ _ _ _ (l .before .if1 .left)
+    (stopped-at (l .loop .inv) (over-before _ _ refl (z .before .if2 .left)) (z .if3 .left) (d .step .ensures) (c .before .before .before .if4 .taken)
+    (c .before .before .answer-of .ensures) (c .before .halting .ensures) (c .gather3 .ensures))
 
 loop-again : tie.Need-loop-again Inv-loop μ-loop
 loop-again c =
@@ -113,74 +101,44 @@ go-spec =
     (λ c.
     let u′ = c .before .before .before .before .before .before .before .before .before .before .before .before .before .before .before in
     let u′′ = u′ .before .before .before .before .before .before .before .before .before .before .before .before .before .before .before in
-    let u = u′′ .before .before .before in
+    let u = u′′ .before .before in
     u .loop .inv .within)
-    (λ c.
-    let z′ = c .before .before .before .before .before .before .before .before .before .before .before .before .before .before .before in
-    let z′′ = z′ .before .before .before .before .before .before .before .before .before .before .before .before .before .before .before in
-    let z = z′′ .before in
-    let u′ = z .before .before .before .before .before .before .before .before .before .before .before .before .before .before .before in
-    let u = u′ .before .before .before in
-    omega (arith, u .fits .budget, z .if3 .left, z .before .before .loop .inv .within))
+    (λ c κs. search needs)
     (λ c κs. search needs)
     (λ c.
-    let d = c .before .before .before .before .before .before .before .before .before .before .before .before in
+    let d = c .before .before .before .before .before .before .before .before .before .before .before .before .before in
+    let z′ = d .before .before .before .before .before .before .before .before .before .before .before .before .before .before .before in
+    let z = z′ .before .before .before .before in
+    let u′ = z .before .before .before .before .before .before .before .before .before .before .before .before .before .before .before in
+    let u = u′ .before .before .before in
+    omega (arith, u .fits .budget, z .if3 .left, z .before .before .loop .inv .within, c .halting .ensures, made-few (d .step .result)))
+    (λ c κs. search needs)
+    (λ c.
+    let d = c .before .before .before .before .before .before .before .before .before .before .before .before .before in
     let u′ = d .before .before .before .before .before .before .before .before .before .before .before .before .before .before .before in
     let u = u′ .before .before .before .before .before .before .before in
     d .register .given ∙ u .loop .inv .register)
     (λ c.
-    let d = c .before .before .before .before .before .before .before .before .before .before in
+    let d = c .before .before .before .before .before .before .before .before .before .before .before in
     let u′ = d .before .before .before .before .before .before .before .before .before .before .before .before .before .before .before in
     let u = u′ .before .before .before .before .before .before .before .before .before in
     d .tape .given ∙ u .loop .inv .tape)
     (λ c.
-    let d = c .before .before .before .before .before .before .before .before in
+    let d = c .before .before .before .before .before .before .before .before .before in
     let u′ = d .before .before .before .before .before .before .before .before .before .before .before .before .before .before .before in
     let u = u′ .before .before .before .before .before .before .before .before .before .before .before in
     d .table .given ∙ u .loop .inv .table)
     (λ c.
-    let d = c .before .before .before .before .before .before in
+    let d = c .before .before .before .before .before .before .before in
     let u′ = d .before .before .before .before .before .before .before .before .before .before .before .before .before .before .before in
     let u = u′ .before .before .before .before .before .before .before .before .before .before .before .before .before in
     d .channel .given ∙ u .loop .inv .channel)
     (λ c.
-    let d = c .before .before .before .before in
+    let d = c .before .before .before .before .before in
     let u′ = d .before .before .before .before .before .before .before .before .before .before .before .before .before .before .before in
     let u = u′ .before .before .before .before .before .before .before .before .before .before .before .before .before .before .before in
     d .output .given ∙ u .loop .inv .output)
     returns-4
-    (λ c.
-    let u′ = c .before .before .before .before .before .before .before .before .before .before .before .before .before .before .before in
-    let u′′ = u′ .before .before .before .before .before .before .before .before .before .before .before .before .before .before .before in
-    let u = u′′ .before .before .before in
-    u .loop .inv .within)
-    (λ c κs. search needs)
-    (λ c.
-    let d = c .before .before .before .before .before .before .before .before .before .before .before .before in
-    let u′ = d .before .before .before .before .before .before .before .before .before .before .before .before .before .before .before in
-    let u = u′ .before .before .before .before .before .before .before in
-    d .register .given ∙ u .loop .inv .register)
-    (λ c.
-    let d = c .before .before .before .before .before .before .before .before .before .before in
-    let u′ = d .before .before .before .before .before .before .before .before .before .before .before .before .before .before .before in
-    let u = u′ .before .before .before .before .before .before .before .before .before in
-    d .tape .given ∙ u .loop .inv .tape)
-    (λ c.
-    let d = c .before .before .before .before .before .before .before .before in
-    let u′ = d .before .before .before .before .before .before .before .before .before .before .before .before .before .before .before in
-    let u = u′ .before .before .before .before .before .before .before .before .before .before .before in
-    d .table .given ∙ u .loop .inv .table)
-    (λ c.
-    let d = c .before .before .before .before .before .before in
-    let u′ = d .before .before .before .before .before .before .before .before .before .before .before .before .before .before .before in
-    let u = u′ .before .before .before .before .before .before .before .before .before .before .before .before .before in
-    d .channel .given ∙ u .loop .inv .channel)
-    (λ c.
-    let d = c .before .before .before .before in
-    let u′ = d .before .before .before .before .before .before .before .before .before .before .before .before .before .before .before in
-    let u = u′ .before .before .before .before .before .before .before .before .before .before .before .before .before .before .before in
-    d .output .given ∙ u .loop .inv .output)
-    returns-5
     (λ c.
     let z′ = c .before .before .before .before .before .before .before .before .before .before .before .before .before .before .before in
     let z = z′ .before .before .before .before .before .before .before .before .before .before .before .before .before .before .before .if3 .left in

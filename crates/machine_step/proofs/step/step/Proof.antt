@@ -4,15 +4,17 @@ use native.Mathlib.Omega.{arith}
 use borrow.Author.Tests.{lt-ltb, le-ltb}
 use borrow.Author.Needs.{needs}
 use Rattle.basics.specs.Pick.{pick}
-use Rattle.machine_numbers.specs.Numbers.{stepped}
+use Rattle.machine_numbers.proofs.Had.{stepped-lacking}
 use Rattle.machine_step.specs.Step.{stepOf}
 use Rattle.machine_step.proofs.Steps.{can-op, stepped-as, went, jumped, halted, refused}
 use Rattle.machine_step.proofs.step.step.Statement.{statement}
 use Rattle.machine_step.proofs.step.step.Tie as tie
 
 returns : tie.Need-returns
-unfolding stepOf stepped pick
-returns c = rw (← c .before .before .wide-short .ensures .0, lt-ltb _ _ (c .if1 .taken)) refl
+unfolding stepOf pick
+returns c =
+    let i = c .before in
+    rw (← i .before .before .wide-short .ensures .0, lt-ltb _ _ (i .if1 .taken), c .with-lane .ensures, stepped-lacking 21 _ (omega arith) (omega arith)) refl
 
 op-requires : tie.Need-op-requires
 op-requires c κs =
@@ -77,6 +79,7 @@ step-spec =
     (tie.spec
     (λ c. search needs)
     (λ c. search needs)
+    (λ c κs. search needs)
     (λ c κs. search needs)
     returns
     (λ c. search needs)
