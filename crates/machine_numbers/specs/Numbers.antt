@@ -77,9 +77,15 @@ halting = 2
 abbrev pub withLane : ℕ → ℕ → ℕ
 withLane n l = n + 64 * l
 
+abbrev pub numberIn : ℕ → ℕ
+numberIn a = a % 64
+
+abbrev pub laneIn : ℕ → ℕ
+laneIn a = a / 64
+
 -- refused with a
 abbrev pub refusedBy : ℕ → Numbers → OpAnswer
-refusedBy a p = lacking (a % 64) (a / 64) p
+refusedBy a p = lacking (numberIn a) (laneIn a) p
 
 -- whether n of l cells can be had from the place `at` on: done, or else the number m with the first that can not
 unfoldable pub having : ℕ → ℕ → ℕ → ℕ → ℕ

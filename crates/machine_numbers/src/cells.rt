@@ -5,13 +5,14 @@ ghost use Prim.Native.Nat.{_≤_, _<_};
 ghost use Rattle.basics.specs.Limits as limit;
 ghost use Rattle.machine_numbers.specs.Numbers.{having, withLane};
 use crate::numbers::DONE;
+use crate::numbers::NUMBERS;
 
 // A refusal's number and its lane, as an op answers them.
 pub fn with_lane(number: u32, lane: usize) -> u32
     requires { ⌜ (number < 64) × (lane < 65536) ⌝ }
     ensures { λ r. ⌜ r ≡ withLane number lane ⌝ }
 {
-    number + 64 * (lane as u32)
+    number + NUMBERS * (lane as u32)
 }
 
 // Of l cells l - at stand from the place `at` on, or none. Whether n of them can be had: DONE, or else the refusal with the first that can not.

@@ -6,12 +6,14 @@ ghost use Rattle.machine_numbers.specs.Numbers.{gathered};
 pub const SIGN: u64 = 0x8000000000000000;
 
 // What an op answers that is done and goes on to the next op, one that has set the position, and a Return that halts. A refused one answers the
-// refusal's number, and 64 times the lane that it lacks.
+// refusal's number, which is below NUMBERS, and so many times the lane that it lacks.
 pub const DONE: u32 = 0;
 
 pub const JUMPED: u32 = 1;
 
 pub const HALTED: u32 = 2;
+
+pub const NUMBERS: u32 = 64;
 
 pub struct Numbers {
     pub depth: usize,

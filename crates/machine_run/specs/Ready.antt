@@ -1,18 +1,18 @@
 -- A patch that is read and a state that is well formed, and where its steps end. Assumes nothing.
 use mathlib.Core.Path.{_≡_}
-use mathlib.Core.List.{List, map}
-use Prim.Native.Nat.{ℕ, _/_, _%_}
-use Rattle.ops.specs.Patch.{patchOf, rowIn, countIn, needIn, payloadIn}
-use Rattle.machine_step.specs.Held.{Held, Code}
-use Rattle.bridge.specs.Decoded.{codeOf}
-use Rattle.bridge.specs.Fits.{Fits}
-use lib.Dec.{leb, eqb}
 use mathlib.Core.Bool.{Bool, _||_}
+use mathlib.Core.List.{List, map}
+use Prim.Native.Nat.{ℕ}
+use lib.Dec.{leb, eqb}
 use Rattle.basics.specs.Pick.{pick}
 use Rattle.answers.specs.declared.run.Answer.{Answer}
 use Rattle.answers.specs.declared.run.Answer.the-variants.{Finished, Refused}
-use Rattle.machine_numbers.specs.Numbers.{halting}
+use Rattle.ops.specs.Patch.{patchOf, rowIn, countIn, needIn, payloadIn}
+use Rattle.machine_numbers.specs.Numbers.{halting, numberIn, laneIn}
 use Rattle.machine_numbers.specs.declared.numbers.Numbers.{Numbers}
+use Rattle.machine_step.specs.Held.{Held, Code}
+use Rattle.bridge.specs.Decoded.{codeOf}
+use Rattle.bridge.specs.Fits.{Fits}
 
 -- the file s is good, and these are the columns of its ops
 pub record IsLoaded (s ks ns ds ps : List ℕ) : Type 0 where
@@ -40,7 +40,7 @@ overOf p n = p .halted || leb n (p .position)
 -- the answer of a run whose last step answers a, which is not `done`, and the steps that it made: one that halts
 unfoldable pub endedBy : ℕ → Answer
 unfolding pick
-endedBy a = pick (eqb a halting) Finished (Refused (a % 64) (a / 64))
+endedBy a = pick (eqb a halting) Finished (Refused (numberIn a) (laneIn a))
 
 unfoldable pub madeBy : ℕ → ℕ
 unfolding pick

@@ -6,6 +6,7 @@ ghost use Rattle.machine_run.specs.Ready.{ReadyToRun, endedBy, madeBy};
 use answers::run::Answer;
 use machine_numbers::numbers::DONE;
 use machine_numbers::numbers::HALTED;
+use machine_numbers::numbers::NUMBERS;
 use machine_numbers::numbers::Numbers;
 
 // What the steps leave beside the stacks and the slices.
@@ -22,7 +23,7 @@ fn answer_of(a: u32) -> Answer
     if a == HALTED {
         return Answer::Finished;
     }
-    Answer::Refused(a % 64, a / 64)
+    Answer::Refused(a % NUMBERS, a / NUMBERS)
 }
 
 // How many steps it made: one that halts.

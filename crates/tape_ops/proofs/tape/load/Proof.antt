@@ -4,7 +4,7 @@ use borrow.Author.Tests.{eq-eqb, ne-eqb}
 use Rattle.basics.specs.Pick.{pick}
 use Rattle.machine_numbers.specs.Numbers.{answered, left, oneList}
 use Rattle.machine_numbers.proofs.Parts.{rest-part}
-use Rattle.tape_ops.proofs.Lent.{refused, passed, inside}
+use Rattle.machine_numbers.proofs.Had.{refused, passed, inside}
 use Rattle.tape_ops.specs.Tape.{loadOf}
 use borrow.Author.Needs.{needs}
 use Rattle.tape_ops.proofs.tape.load.Statement.{statement}
@@ -14,21 +14,21 @@ returns : tie.Need-returns
 unfolding loadOf
 returns c p =
     let g = c .before .before .before .before .before .before .args .register .now in
-    rw (c .before .before .if1 .taken) (refused _ _ _ (c .before .have .ensures) (λ x. oneList x g) _ (oneList (answered 0 p) g) _ (c .if2 .taken))
+    rw (c .before .before .if1 .taken) (refused 23 _ _ _ refl (c .before .have .ensures) (λ x. oneList x g) _ (oneList (answered 0 p) g) _ (c .if2 .taken))
 
 returns-2 : tie.Need-returns-2
 unfolding left pick loadOf
 returns-2 c p =
     let d = c .before .before .before in
     let t = d .before .before .before in
-    let w = passed _ _ _ (t .before .have .ensures) (t .if2 .left) refl in
+    let w = passed 23 _ _ _ refl (t .before .have .ensures) (t .if2 .left) refl in
     simp (t .before .before .if1 .taken, w, d .copy-one .ensures, c .grow .ensures, rest-part)
 
 returns-4 : tie.Need-returns-4
 unfolding loadOf
 returns-4 c p =
     let g = c .before .before .before .before .before .before .before .args .register .now in
-    refused _ _ _ (c .before .have2 .ensures) (λ x. oneList x g) _ _ _ (c .if4 .taken)
+    refused 23 _ _ _ refl (c .before .have2 .ensures) (λ x. oneList x g) _ _ _ (c .if4 .taken)
 
 returns-5 : tie.Need-returns-5
 unfolding left pick loadOf
@@ -36,7 +36,7 @@ returns-5 c p =
     let d = c .before .before .before in
     let t = d .before .before .before in
     let z = ne-eqb _ _ (t .before .before .if3 .left) in
-    let w = passed _ _ _ (t .before .have2 .ensures) (t .if4 .left) z in
+    let w = passed 23 _ _ _ refl (t .before .have2 .ensures) (t .if4 .left) z in
     simp (z, w, d .copy-lanes .ensures, c .grow3 .ensures, rest-part)
 
 pub load-spec : {M : Type 1} → statement M
@@ -47,10 +47,10 @@ load-spec =
     (λ c κs. search needs)
     returns
     (λ c. search needs)
-    (λ c. let h = inside _ _ _ (c .before .before .have .ensures) (c .before .if2 .left) refl in search needs)
-    (λ c. let h = inside _ _ _ (c .before .before .have .ensures) (c .before .if2 .left) refl in search needs)
+    (λ c. let h = inside 23 _ _ _ refl (c .before .before .have .ensures) (c .before .if2 .left) refl in search needs)
+    (λ c. let h = inside 23 _ _ _ refl (c .before .before .have .ensures) (c .before .if2 .left) refl in search needs)
     (λ c. search needs)
-    (λ c κs. let h = inside _ _ _ (c .before .before .before .have .ensures) (c .before .before .if2 .left) refl in search needs)
+    (λ c κs. let h = inside 23 _ _ _ refl (c .before .before .before .have .ensures) (c .before .before .if2 .left) refl in search needs)
     (λ c. search needs)
     (λ c κs. search needs)
     (λ c. search needs)
@@ -63,14 +63,14 @@ load-spec =
     (λ c. search needs)
     (λ c.
     let u = c .before .before in
-    let h = inside _ _ _ (u .have2 .ensures) (c .before .if4 .left) (ne-eqb _ _ (u .before .if3 .left)) in search needs)
+    let h = inside 23 _ _ _ refl (u .have2 .ensures) (c .before .if4 .left) (ne-eqb _ _ (u .before .if3 .left)) in search needs)
     (λ c.
     let u = c .before .before in
-    let h = inside _ _ _ (u .have2 .ensures) (c .before .if4 .left) (ne-eqb _ _ (u .before .if3 .left)) in search needs)
+    let h = inside 23 _ _ _ refl (u .have2 .ensures) (c .before .if4 .left) (ne-eqb _ _ (u .before .if3 .left)) in search needs)
     (λ c. search needs)
     (λ c κs.
     let u = c .before .before .before in
-    let h = inside _ _ _ (u .have2 .ensures) (c .before .before .if4 .left) (ne-eqb _ _ (u .before .if3 .left)) in search needs)
+    let h = inside 23 _ _ _ refl (u .have2 .ensures) (c .before .before .if4 .left) (ne-eqb _ _ (u .before .if3 .left)) in search needs)
     (λ c. search needs)
     (λ c κs. search needs)
     (λ c. search needs)

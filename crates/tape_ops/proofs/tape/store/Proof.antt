@@ -4,7 +4,7 @@ use borrow.Author.Tests.{eq-eqb, ne-eqb}
 use Rattle.basics.specs.Pick.{pick}
 use Rattle.machine_numbers.specs.Numbers.{answered, left, oneList}
 use Rattle.machine_numbers.proofs.Parts.{rest-part, copied-back}
-use Rattle.tape_ops.proofs.Lent.{refused, passed, inside}
+use Rattle.machine_numbers.proofs.Had.{refused, passed, inside}
 use Rattle.tape_ops.specs.Tape.{storeOf}
 use borrow.Author.Needs.{needs}
 use Rattle.tape_ops.proofs.tape.store.Statement.{statement}
@@ -14,14 +14,14 @@ returns : tie.Need-returns
 unfolding storeOf
 returns c p =
     let g = c .before .before .before .before .before .before .args .tape .now in
-    rw (c .before .before .if1 .taken) (refused _ _ _ (c .before .have .ensures) (λ x. oneList x g) _ (oneList (answered 0 p) g) _ (c .if2 .taken))
+    rw (c .before .before .if1 .taken) (refused 23 _ _ _ refl (c .before .have .ensures) (λ x. oneList x g) _ (oneList (answered 0 p) g) _ (c .if2 .taken))
 
 returns-2 : tie.Need-returns-2
 unfolding left pick storeOf
 returns-2 c p =
     let d = c .before .before .before in
     let t = d .before .before in
-    let w = passed _ _ _ (t .before .have .ensures) (t .if2 .left) refl in
+    let w = passed 23 _ _ _ refl (t .before .have .ensures) (t .if2 .left) refl in
     let a = t .before .before .before .before .before .before .args in
     simp (t .before .before .if1 .taken, w, d .copy-one .ensures, c .grow .ensures, rest-part, copied-back (a .tape .now) (a .at))
 
@@ -29,7 +29,7 @@ returns-4 : tie.Need-returns-4
 unfolding storeOf
 returns-4 c p =
     let g = c .before .before .before .before .before .before .before .args .tape .now in
-    refused _ _ _ (c .before .have2 .ensures) (λ x. oneList x g) _ _ _ (c .if4 .taken)
+    refused 23 _ _ _ refl (c .before .have2 .ensures) (λ x. oneList x g) _ _ _ (c .if4 .taken)
 
 returns-5 : tie.Need-returns-5
 unfolding left pick storeOf
@@ -37,7 +37,7 @@ returns-5 c p =
     let d = c .before .before .before in
     let t = d .before .before in
     let z = ne-eqb _ _ (t .before .before .if3 .left) in
-    let w = passed _ _ _ (t .before .have2 .ensures) (t .if4 .left) z in
+    let w = passed 23 _ _ _ refl (t .before .have2 .ensures) (t .if4 .left) z in
     let a = t .before .before .before .before .before .before .before .args in
     simp (z, w, d .copy-lanes .ensures, c .grow3 .ensures, rest-part, copied-back (a .tape .now) (a .at))
 
@@ -49,10 +49,10 @@ store-spec =
     (λ c κs. search needs)
     returns
     (λ c. search needs)
-    (λ c. let h = inside _ _ _ (c .before .have .ensures) (c .if2 .left) refl in search needs)
-    (λ c. let h = inside _ _ _ (c .before .have .ensures) (c .if2 .left) refl in search needs)
+    (λ c. let h = inside 23 _ _ _ refl (c .before .have .ensures) (c .if2 .left) refl in search needs)
+    (λ c. let h = inside 23 _ _ _ refl (c .before .have .ensures) (c .if2 .left) refl in search needs)
     (λ c. search needs)
-    (λ c κs. let h = inside _ _ _ (c .before .before .have .ensures) (c .before .if2 .left) refl in search needs)
+    (λ c κs. let h = inside 23 _ _ _ refl (c .before .before .have .ensures) (c .before .if2 .left) refl in search needs)
     (λ c. search needs)
     (λ c κs. search needs)
     (λ c. search needs)
@@ -65,14 +65,14 @@ store-spec =
     (λ c. search needs)
     (λ c.
     let u = c .before in
-    let h = inside _ _ _ (u .have2 .ensures) (c .if4 .left) (ne-eqb _ _ (u .before .if3 .left)) in search needs)
+    let h = inside 23 _ _ _ refl (u .have2 .ensures) (c .if4 .left) (ne-eqb _ _ (u .before .if3 .left)) in search needs)
     (λ c.
     let u = c .before in
-    let h = inside _ _ _ (u .have2 .ensures) (c .if4 .left) (ne-eqb _ _ (u .before .if3 .left)) in search needs)
+    let h = inside 23 _ _ _ refl (u .have2 .ensures) (c .if4 .left) (ne-eqb _ _ (u .before .if3 .left)) in search needs)
     (λ c. search needs)
     (λ c κs.
     let u = c .before .before in
-    let h = inside _ _ _ (u .have2 .ensures) (c .before .if4 .left) (ne-eqb _ _ (u .before .if3 .left)) in search needs)
+    let h = inside 23 _ _ _ refl (u .have2 .ensures) (c .before .if4 .left) (ne-eqb _ _ (u .before .if3 .left)) in search needs)
     (λ c. search needs)
     (λ c κs. search needs)
     (λ c. search needs)
