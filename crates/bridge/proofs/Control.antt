@@ -175,7 +175,9 @@ module _ (g : Given) (ks : List ℕ) (r : Rows (g .ops) ks) (c : Held) (h : Coun
         rw (add-one (c .numbers .position), r .marked) (function-by (c .numbers .position) k (toEnd i 0 (drop i (map rowBracket ks))) (partner toEnd end-below here))
 
     found-by : (x : Option ℕ) → ((j : ℕ) → x ≡ some j → Marked g j) → c .numbers .depth < 256
-        → steering c (pick (leb (length ks) (place x)) (m.steered (m.answered 29 (c .numbers)) (c .calls) (c .table)) (m.steered (m.answered 0 (m.atPosition (m.ofFunctions (m.ofDepth (c .numbers) (c .numbers .depth + 1)) (countedIn (place x) (c .numbers .functions) (c .table))) (place x + 1))) (lib.ListN.set (c .calls) (c .numbers .depth) (c .numbers .position)) (enteredIn (place x) (c .numbers .functions) (c .table))))
+        → steering c (pick (leb (length ks) (place x)) (m.steered (m.answered 29 (c .numbers)) (c .calls) (c .table))
+        (m.steered (m.answered 0 (m.atPosition (m.ofFunctions (m.ofDepth (c .numbers) (c .numbers .depth + 1)) (countedIn (place x) (c .numbers .functions) (c .table))) (place x + 1)))
+        (lib.ListN.set (c .calls) (c .numbers .depth) (c .numbers .position)) (enteredIn (place x) (c .numbers .functions) (c .table))))
         ≡ laid c (found (view c) x)
     unfolding pick
     found-by none k b = rw (no-place) refl

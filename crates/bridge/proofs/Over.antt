@@ -69,24 +69,36 @@ module _ (c : Held) (h : Counted c) where
 
   -- the numbers, the tape and the register changed
   pub over-reg : (at pt len n k : ℕ) (b : Bool) (r t : List ℕ) → Laid n (c .register) r
-      → Over c (held (record { depth = c .numbers .depth; saved = c .numbers .saved; pointer = pt; position = at; length = len; lanes = n; functions = c .numbers .functions; first = c .numbers .first; waiting = c .numbers .waiting; taken = k; written = c .numbers .written; halted = b }) (c .calls) (c .refs) r t (c .table) (c .channel) (c .output))
+      → Over c
+      (held
+      (record { depth = c .numbers .depth; saved = c .numbers .saved; pointer = pt; position = at; length = len; lanes = n; functions = c .numbers .functions; first = c .numbers .first; waiting = c .numbers .waiting; taken = k; written = c .numbers .written; halted = b })
+      (c .calls) (c .refs) r t (c .table) (c .channel) (c .output))
   over-reg at pt len n k b r t l =
       let o = over-same in record { calls = o .calls; refs = o .refs; register = l; table = o .table; output = o .output; channel = o .channel; head = o .head }
 
   -- the numbers and the tape
   pub over-num : (at pt len k : ℕ) (b : Bool) (t : List ℕ)
-      → Over c (held (record { depth = c .numbers .depth; saved = c .numbers .saved; pointer = pt; position = at; length = len; lanes = c .numbers .lanes; functions = c .numbers .functions; first = c .numbers .first; waiting = c .numbers .waiting; taken = k; written = c .numbers .written; halted = b }) (c .calls) (c .refs) (c .register) t (c .table) (c .channel) (c .output))
+      → Over c
+      (held
+      (record { depth = c .numbers .depth; saved = c .numbers .saved; pointer = pt; position = at; length = len; lanes = c .numbers .lanes; functions = c .numbers .functions; first = c .numbers .first; waiting = c .numbers .waiting; taken = k; written = c .numbers .written; halted = b })
+      (c .calls) (c .refs) (c .register) t (c .table) (c .channel) (c .output))
   over-num at pt len k b t = over-reg at pt len (c .numbers .lanes) k b (c .register) t (over-same .register)
 
   -- the numbers, the call stack and the table
   pub over-calls : (at d u : ℕ) (b : Bool) (cs ts : List ℕ) → Laid d (c .calls) cs → Laid u (c .table) ts
-      → Over c (held (record { depth = d; saved = c .numbers .saved; pointer = c .numbers .pointer; position = at; length = c .numbers .length; lanes = c .numbers .lanes; functions = u; first = c .numbers .first; waiting = c .numbers .waiting; taken = c .numbers .taken; written = c .numbers .written; halted = b }) cs (c .refs) (c .register) (c .tape) ts (c .channel) (c .output))
+      → Over c
+      (held
+      (record { depth = d; saved = c .numbers .saved; pointer = c .numbers .pointer; position = at; length = c .numbers .length; lanes = c .numbers .lanes; functions = u; first = c .numbers .first; waiting = c .numbers .waiting; taken = c .numbers .taken; written = c .numbers .written; halted = b })
+      cs (c .refs) (c .register) (c .tape) ts (c .channel) (c .output))
   over-calls at d u b cs ts l m =
       let o = over-same in record { calls = l; refs = o .refs; register = o .register; table = m; output = o .output; channel = o .channel; head = o .head }
 
   -- the numbers and the saved pointers
   pub over-refs : (at pt len d : ℕ) (rs : List ℕ) → Laid d (c .refs) rs
-      → Over c (held (record { depth = c .numbers .depth; saved = d; pointer = pt; position = at; length = len; lanes = c .numbers .lanes; functions = c .numbers .functions; first = c .numbers .first; waiting = c .numbers .waiting; taken = c .numbers .taken; written = c .numbers .written; halted = c .numbers .halted }) (c .calls) rs (c .register) (c .tape) (c .table) (c .channel) (c .output))
+      → Over c
+      (held
+      (record { depth = c .numbers .depth; saved = d; pointer = pt; position = at; length = len; lanes = c .numbers .lanes; functions = c .numbers .functions; first = c .numbers .first; waiting = c .numbers .waiting; taken = c .numbers .taken; written = c .numbers .written; halted = c .numbers .halted })
+      (c .calls) rs (c .register) (c .tape) (c .table) (c .channel) (c .output))
   over-refs at pt len d rs l =
       let o = over-same in record { calls = o .calls; refs = l; register = o .register; table = o .table; output = o .output; channel = o .channel; head = o .head }
 

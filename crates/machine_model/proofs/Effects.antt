@@ -37,7 +37,8 @@ use Rattle.machine_model.specs.Step.{Outcome, lack, bar, enter, jump, en
 use Rattle.machine_model.specs.Step.Outcome.{next}
 use Rattle.machine_model.specs.Formed.{Each, Rising, Whole, Formed}
 use Rattle.machine_model.specs.Words.{Word, Words}
-use Rattle.machine_model.specs.Missing.{cellsOf, FirstMissing}
+use Rattle.machine_model.specs.Missing.{AsksCells, FirstMissing, FirstCell}
+use Rattle.machine_model.specs.Missing.AsksCells.{loads, stores, swaps, combines, derefs}
 use Rattle.machine_model.proofs.Each.{each-part, each-end, each-take, each-at, each-getD, each-map, each-zip}
 use Rattle.machine_model.proofs.Scans.{isControl, Landing, function-lands, while-lands, mark-lands, Seeks, end-seeks, else-seeks, kth-is}
 use Rattle.machine_model.proofs.Scans.Seeks.{nowhere, arrives}
@@ -142,8 +143,8 @@ Over g s = (s .halted || leb (length (g .ops)) (s .at)) ≡ true
 pub data Refusal (g : Given) (s : State) (o : Op) : ℕ → ℕ → Type 0 where
   lost : s .at < length (g .ops) → (bracket o ≡ up) ⊎ (bracket o ≡ mid) → endOf g s ≡ none → Refusal g s o 20 0
   narrow : s .at < length (g .ops) → length (s .reg) < needs o → Refusal g s o 21 (length (s .reg))
-  short : {l : ℕ} → FirstMissing (λ j. s .pointer + j < s .counted) (cellsOf o) l → Refusal g s o 22 l
-  cut : {l : ℕ} → FirstMissing (λ j. s .pointer + j < length (s .tape)) (cellsOf o) l → Refusal g s o 23 l
+  short : {l : ℕ} → FirstCell (λ j. s .pointer + j < s .counted) o l → Refusal g s o 22 l
+  cut : {l : ℕ} → FirstCell (λ j. s .pointer + j < length (s .tape)) o l → Refusal g s o 23 l
   other : {n : ℕ} → leb 24 n ≡ true → Refusal g s o n 0
 
 -- the saved calls and the table, where Q holds of each place to go on after
@@ -195,14 +196,14 @@ module _ (g : Given) (Q : ℕ → Type 0) (lands : (j : ℕ) → Landing (g .ops
   refuses : {o : Op} {b : Bool} {x : Outcome} (n : ℕ) → leb 24 n ≡ true → (b ≡ false → Does o x) → Does o (bar b n x)
   refuses n h k = bar-gives n (λ _. other h) k
 
-  -- 22 and 23, with the first of the op's cells that is missing
-  falls-short : {o : Op} {x : Outcome} → (beyond (s .pointer) (cellsOf o) (s .counted) ≡ false → Does o x)
-      → Does o (lack (beyond (s .pointer) (cellsOf o) (s .counted)) 22 (ahead (s .pointer) (s .counted)) x)
-  falls-short {o} k = lack-gives 22 _ (λ e. short (first-ahead (s .pointer) (cellsOf o) (s .counted) e)) k
+  -- 22 and 23, with the first of the n cells that is missing
+  falls-short : {o : Op} {x : Outcome} {n : ℕ} → AsksCells o n → (beyond (s .pointer) n (s .counted) ≡ false → Does o x)
+      → Does o (lack (beyond (s .pointer) n (s .counted)) 22 (ahead (s .pointer) (s .counted)) x)
+  falls-short {n = n} a k = lack-gives 22 _ (λ e. short (record { count = n; asks = a; first = first-ahead (s .pointer) n (s .counted) e })) k
 
-  cuts-short : {o : Op} {x : Outcome} → (beyond (s .pointer) (cellsOf o) (length (s .tape)) ≡ false → Does o x)
-      → Does o (lack (beyond (s .pointer) (cellsOf o) (length (s .tape))) 23 (ahead (s .pointer) (length (s .tape))) x)
-  cuts-short {o} k = lack-gives 23 _ (λ e. cut (first-ahead (s .pointer) (cellsOf o) (length (s .tape)) e)) k
+  cuts-short : {o : Op} {x : Outcome} {n : ℕ} → AsksCells o n → (beyond (s .pointer) n (length (s .tape)) ≡ false → Does o x)
+      → Does o (lack (beyond (s .pointer) n (length (s .tape))) 23 (ahead (s .pointer) (length (s .tape))) x)
+  cuts-short {n = n} a k = lack-gives 23 _ (λ e. cut (record { count = n; asks = a; first = first-ahead (s .pointer) n (length (s .tape)) e })) k
 
   -- ---- control
 
@@ -317,10 +318,10 @@ module _ (g : Given) (Q : ℕ → Type 0) (lands : (j : ℕ) → Landing (g .ops
 
   act-does : (p : Plain) → plainNeeds p ≤ length (s .reg) → Does (plain p) (act g p s)
   unfolding act
-  act-does (store n) l = cuts-short (λ _. grows refl (cover-whole _ _) (λ f h. (omega (arith, covered f n h), f .pointed, λ w. search each-part)))
+  act-does (store n) l = cuts-short stores (λ _. grows refl (cover-whole _ _) (λ f h. (omega (arith, covered f n h), f .pointed, λ w. search each-part)))
   act-does deref l =
       refuses 32 refl
-      (λ d. bar-gives 23 (λ e. cut (first-here (s .pointer) (length (s .tape)) (leb-true _ _ e)))
+      (λ d. bar-gives 23 (λ e. cut (record { count = 1; asks = derefs; first = first-here (s .pointer) (length (s .tape)) (leb-true _ _ e) }))
       (λ _. refuses 26 refl
       (λ _. refuses 25 refl
       (λ e. grows refl (cover-whole _ _)
@@ -328,10 +329,10 @@ module _ (g : Given) (Q : ℕ → Type 0) (lands : (j : ℕ) → Landing (g .ops
       (omega (arith, ltb-false, leb-false, length-append (s .refs) (s .pointer ∷ [])), search each-part, λ w. search))))))
   act-does refer l = refer-does (s .refs) refl
   act-does (cell k n) l =
-      falls-short
-      (λ _. cuts-short
+      falls-short combines
+      (λ _. cuts-short combines
       (λ _. works (length-zip (cellRule k) n (s .reg) (drop (s .pointer) (s .tape))) (λ f h. (omega arith, f .pointed, λ w. search (each-part, each-zip, cellRule-below)))))
-  act-does (swap n) l = falls-short (λ _. cuts-short (λ e. works (swap-long s n l e) (λ f h. (omega arith, f .pointed, λ w. search each-part))))
+  act-does (swap n) l = falls-short swaps (λ _. cuts-short swaps (λ e. works (swap-long s n l e) (λ f h. (omega arith, f .pointed, λ w. search each-part))))
   act-does (move m) l = move-does m (minus m)
   act-does alloc l =
       refuses 30 refl
@@ -357,7 +358,7 @@ module _ (g : Given) (Q : ℕ → Type 0) (lands : (j : ℕ) → Landing (g .ops
   unfolding exec
   exec-does (control c) is l = turn-does c is
   exec-does (load n) is l =
-      cuts-short
+      cuts-short loads
       (λ e. grows (cells-long (s .pointer) n (s .tape) e) (cover-whole _ _) (λ f h. (omega (arith, covered f n h), f .pointed, λ w. search each-part)))
   exec-does (set k vs) is l = works refl (λ f h. (omega arith, f .pointed, λ w. search (below-words vs (h .1))))
   exec-does (plain p) is l = act-does p l

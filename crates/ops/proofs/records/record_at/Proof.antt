@@ -22,4 +22,16 @@ record-at-spec =
     (λ c κs. search needs)
     (λ c. simp (le-ltb _ _ (c .before .before .before .before .before .before .if1 .left), le-ltb _ _ (c .before .before .before .before .if2 .left), le-ltb _ _ (c .before .before .before .if3 .left), le-leb _ _ (c .if4 .taken), ← (c .before .before .before .before .before .u32-at .ensures .0), ← (c .before .before .u16-at .ensures .0), ← (c .before .index-of .ensures .0)))
     (λ c κs. search needs)
-    (λ c. simp (le-ltb _ _ (c .before .before .before .before .before .before .before .if1 .left), le-ltb _ _ (c .before .before .before .before .before .if2 .left), le-ltb _ _ (c .before .before .before .before .if3 .left), lt-leb _ _ (c .before .if4 .left), ← (c .before .before .before .before .before .before .u32-at .ensures .0), ← (c .before .before .before .u16-at .ensures .0), ← (c .before .before .index-of .ensures .0), c .body-at .ensures)))
+    (λ c.
+    let i = c .before .before in
+    let l = i .before .before in
+    simp (
+      le-ltb _ _ (l .before .before .before .if1 .left),
+      le-ltb _ _ (l .before .if2 .left),
+      le-ltb _ _ (l .if3 .left),
+      lt-leb _ _ (c .before .if4 .left),
+      ← (l .before .before .u32-at .ensures .0),
+      ← (i .before .u16-at .ensures .0),
+      ← (i .index-of .ensures .0),
+      c .body-at .ensures,
+    )))

@@ -90,7 +90,9 @@ module _ {M : Type 1} (𝓤 : URA M) (H : Heap 𝓤) (A : Atoms 𝓤) (W : Given
 
 advanced-meets : {M : Type 1} (𝓤 : URA M) (H : Heap 𝓤) (A : Atoms 𝓤) → Given 𝓤 H A → (mem : Memory → SProp 𝓤) (run : Routine → Fun 𝓤) (𝓣 : Tables 𝓤 H)
     → Meets 𝓤 H A advanced.signature (WpFn 𝓤 H (𝓣 .C) (𝓣 .Λ) code.function) (advanced.spec 𝓤 H A mem run)
-advanced-meets 𝓤 H A W mem run 𝓣 = walk-meets 𝓤 H A advanced.ended stayed W (goes-none 𝓤 H A W 1 B yes (λ κs x f. refl), (goes-none 𝓤 H A W 1 (λ _. usize) yes (λ κs x f. refl), tt)) (advanced.clauses 𝓤 H A mem run) (WpFn 𝓤 H (𝓣 .C) (𝓣 .Λ) code.function) (WpFn-mono 𝓤 H (W .laws) 𝓣 code.function) (advanced-walks 𝓤 H A W mem run (𝓣 .C) (𝓣 .Λ))
+advanced-meets 𝓤 H A W mem run 𝓣 =
+    walk-meets 𝓤 H A advanced.ended stayed W (goes-none 𝓤 H A W 1 B yes (λ κs x f. refl), (goes-none 𝓤 H A W 1 (λ _. usize) yes (λ κs x f. refl), tt))
+    (advanced.clauses 𝓤 H A mem run) (WpFn 𝓤 H (𝓣 .C) (𝓣 .Λ) code.function) (WpFn-mono 𝓤 H (W .laws) 𝓣 code.function) (advanced-walks 𝓤 H A W mem run (𝓣 .C) (𝓣 .Λ))
 
 pub advanced-spec : {M : Type 1} → stated.statement M
 unfolding code.routine tablesOf

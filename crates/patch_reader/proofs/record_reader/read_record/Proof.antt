@@ -190,7 +190,9 @@ module _ {M : Type 1} (𝓤 : URA M) (H : Heap 𝓤) (A : Atoms 𝓤) (W : Given
 read-record-meets : {M : Type 1} (𝓤 : URA M) (H : Heap 𝓤) (A : Atoms 𝓤) (W : Given 𝓤 H A) (mem : Memory → SProp 𝓤) (run : Routine → Fun 𝓤) (𝓣 : Tables 𝓤 H)
     → Triple 𝓤 (𝓣 .C #new) (New 𝓤 H A mem run) → Triple 𝓤 (𝓣 .C #advanced) (Advanced 𝓤 H A mem run) → Triple 𝓤 (𝓣 .C #next-record) (Next 𝓤 H A mem run)
     → Meets 𝓤 H A read-record.signature (WpFn 𝓤 H (𝓣 .C) (𝓣 .Λ) code.function) (read-record.spec 𝓤 H A mem run)
-read-record-meets 𝓤 H A W mem run 𝓣 known-new known-advanced known-next-record = walk-meets 𝓤 H A read-record.ended stayed W (goes-none-slice 𝓤 H A W 1 (0 ∷ []) tt (plain (λ _. u8)) yes, (goes-none 𝓤 H A W 1 (λ _. usize) yes (λ κs x f. refl), tt)) (read-record.clauses 𝓤 H A mem run) (WpFn 𝓤 H (𝓣 .C) (𝓣 .Λ) code.function) (WpFn-mono 𝓤 H (W .laws) 𝓣 code.function)
+read-record-meets 𝓤 H A W mem run 𝓣 known-new known-advanced known-next-record =
+    walk-meets 𝓤 H A read-record.ended stayed W (goes-none-slice 𝓤 H A W 1 (0 ∷ []) tt (plain (λ _. u8)) yes, (goes-none 𝓤 H A W 1 (λ _. usize) yes (λ κs x f. refl), tt))
+    (read-record.clauses 𝓤 H A mem run) (WpFn 𝓤 H (𝓣 .C) (𝓣 .Λ) code.function) (WpFn-mono 𝓤 H (W .laws) 𝓣 code.function)
     (read-record-walks 𝓤 H A W mem run (𝓣 .C) (𝓣 .Λ) (fmOf 𝓤 H (W .laws) 𝓣) known-new known-advanced known-next-record)
 
 pub read-record-spec : {M : Type 1} → stated.statement M
