@@ -6,7 +6,7 @@ import sys
 
 sys.path.insert(0, os.path.join(os.path.dirname(os.path.abspath(__file__)), "..", "compare"))
 from generate import from_the_last, in_order, op
-from model01 import (ADD, ADDF, ALLOC, AND, ARSH, BAND, BNOT, BOR, BXOR, CALL, DEC, DEREF, DIV, DIVF, ELSE, END, FUNCTION, GET, GEZ, GEZF, IF,
+from model01 import (ADD, ADDF, ALLOC, AND, ARSH, BAND, BNOT, BOR, BXOR, CALL, COMMENT, DEC, DEREF, DIV, DIVF, ELSE, END, FUNCTION, GET, GEZ, GEZF, IF,
                      INC, INDEX, LOAD, LRSH, LSH, MOVE, MUL, MULF, NAND, NEG, NEGF, NOT, OFFSET, OR, PUT, REFER, REM, REMF, RETURN, SET,
                      SETF, STORE, SUB, SUBF, SWAP, TOFLOAT, TOINT, WHERE, WHILE)
 
@@ -193,6 +193,17 @@ def runs():
     yield "straight line, 4,000 ops", straight(), [], 4
     patch, inputs = level()
     yield "level of a block", patch, inputs, 8_000
+
+
+TWINS = "tight loop", "nested brackets", "calls and returns", "moves, loads, stores", "integer lanes, 1", "char output", "level of a block"
+
+
+def twins():
+    """Some of them, each beside the same patch with a comment before each op."""
+    for name, ops, inputs, room in runs():
+        if name in TWINS:
+            yield name, ops, inputs, room
+            yield name + ", commented", [o for each in ops for o in (op(COMMENT, b"pitch up"), each)], inputs, room
 
 
 NAMES = {ADD: "add", SUB: "sub", MUL: "mul", DIV: "div", REM: "rem", NAND: "nand", BAND: "bit and", BOR: "bit or", BXOR: "xor", BNOT: "bit not",

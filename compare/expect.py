@@ -66,11 +66,11 @@ def build():
 
 
 def judged(judge, data, *flags, timeout=None):
-    """The judge's verdict on each case: sort, number, verdict, kind, NaNs, and whether the Rust's panic names the lane."""
+    """The judge's verdict on each case: sort, number, verdict, kind, NaNs, whether the Rust's panic names the lane, and its steps over comments."""
     told = subprocess.run([judge, *flags], input=data, stdout=subprocess.PIPE, check=True, timeout=timeout).stdout.decode()
     for line in told.splitlines():
-        sort, number, verdict, kind, nans, named = line.split()
-        yield int(sort), int(number), verdict, None if kind == "-" else int(kind), int(nans), named == "1"
+        sort, number, verdict, kind, nans, named, comments = line.split()
+        yield int(sort), int(number), verdict, None if kind == "-" else int(kind), int(nans), named == "1", int(comments)
 
 
 def tally(judge, cases):
@@ -79,14 +79,15 @@ def tally(judge, cases):
     told = list(judged(judge, b"".join(cases)))
     if len(told) != len(cases):
         sys.exit("expect.py: %d verdicts for %d cases" % (len(told), len(cases)))
-    for i, (sort, number, verdict, kind, nans, named) in enumerate(told):
+    for i, (sort, number, verdict, kind, nans, named, comments) in enumerate(told):
         found = name(sort, number, verdict, kind)
         if found is None:
             wrong.append((i, verdict))
         else:
             counts[found] = counts.get(found, 0) + 1
-        if nans:
-            counts["NaN bits"] = counts.get("NaN bits", 0) + 1
+        for times, beside in ((nans, "NaN bits"), (comments, "comment as a step")):
+            if times:
+                counts[beside] = counts.get(beside, 0) + 1
         if number in (21, 22, 23):
             lane = NAMED if named else UNNAMED
             counts[lane] = counts.get(lane, 0) + 1
@@ -116,7 +117,7 @@ def smallest(judge):
         print("%-22s %-5s %s: %s" % (row, verdict, "as listed" if met else "NOT AS LISTED (%s)" % wanted, lists.patch_words(c.patch)))
         bad += not met
     for row, c in generate.rusts_own():
-        verdict = next(judged(judge, lists.write(c)))[2]
+        verdict = next(judged(judge, lists.write(c), "--raw"))[2]
         print("%-22s the Rust's answer %s: %s" % (row, "as listed" if verdict == "agree" else "NOT AS LISTED", lists.patch_words(c.patch)))
         bad += verdict != "agree"
     return bad

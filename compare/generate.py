@@ -589,6 +589,9 @@ def randoms(seed, count):
             short.machine, short.style = c.machine.copy(), "short tape"
             short.machine.counted = 1 + 7919 * i % 29_999
             yield short if i % 2 else stepped(short)
+        # and some runs with comments
+        if i % 8 == 4 and c.style not in ("", "no state"):
+            yield with_comments(c, random.Random(i))
 
 
 # ---- around every limit
@@ -877,6 +880,12 @@ def laned(data, tape=16, lane=6, cell=0, **numbers):
     return c
 
 
+# each refusal at an op but 21, 22 and 23: the op, and what is said of a state with 7 lanes and its pointer at 3
+REFUSED = [(op(IF), dict(lane=0)), (op(FUNCTION), {}), (op(MOVE, -4), {}), (op(MOVE, 1_000_000_000), {}), (op(DEREF), dict(cell=1_000_000_001)),
+           (op(DEREF), dict(cell=WORD)), (op(REFER), {}), (op(CALL), dict(lane=WORD)), (op(CALL), {}), (op(ALLOC), dict(lane=WORD)),
+           (op(DEREF), dict(refs=[0] * 256)), (op(PEEK), {}), (op(POKE), dict(waiting=256)), (op(GET, 0), {}), (op(PUT, 0), dict(written=4))]
+
+
 def missing():
     """Refusals 21, 22 and 23 with the first lane that could not be had, and answers that carry lane 0 where a wrong one would show (02, ask 3)."""
     add, swap = model01.ADD, model01.SWAP
@@ -930,12 +939,119 @@ def missing():
         for call in (lambda c: c, stepped):
             yield call(laned(op(add, 400), lanes=7, pointer=9, **numbers))
     # lane 0: refused for another reason
-    for data, said in ((op(IF), dict(lane=0)), (op(FUNCTION), {}), (op(MOVE, -4), {}), (op(MOVE, 1_000_000_000), {}),
-                       (op(DEREF), dict(cell=1_000_000_001)), (op(DEREF), dict(cell=WORD)), (op(REFER), {}), (op(CALL), dict(lane=WORD)),
-                       (op(CALL), {}), (op(ALLOC), dict(lane=WORD)), (op(DEREF), dict(refs=[0] * 256)), (op(PEEK), {}),
-                       (op(POKE), dict(waiting=256)), (op(GET, 0), {}), (op(PUT, 0), dict(written=4)), (op(FREE), dict(position=2)),
-                       (op(FREE)[:5], {})):
+    for data, said in (*REFUSED, (op(FREE), dict(position=2)), (op(FREE)[:5], {})):
         yield laned(data, lanes=7, pointer=3, **said)
+
+
+# ---- comments, which are passed and not counted (02, ask 8)
+
+NOTE = op(COMMENT, b"a")
+# brackets, calls and returns, and what is refused or goes on
+AROUND = [op(FUNCTION), op(CALL), op(RETURN), op(WHILE), op(IF), op(ELSE), op(END), op(SET, 1), op(model01.ADD, 1)]
+
+
+def op_count(data):
+    return model01.read_patch(data)[1]
+
+
+def annotated(c, before):
+    """The case with so many comments before each op, and after the last. Places go with their ops; the position stands at the comments."""
+    ops = Maker.split([c.patch])
+    on = list(itertools.accumulate(before))
+    c = copy.copy(c)
+    c.patch = b"".join(b"".join(op(COMMENT, b"ab"[:k]) for k in range(n)) + one for n, one in zip(before, ops + [b""]))
+    if c.sort != FRESH:
+        m = c.machine = c.machine.copy()
+        m.position += on[m.position] - before[m.position]
+        m.calls = [p + on[p] for p in m.calls]
+        c.table = [p + on[p] for p in c.table[:m.functions]] + c.table[m.functions:]
+    return c
+
+
+def with_comments(c, r):
+    """A random case, annotated at random: a run from a state may stand at a comment or past some, and may be a step; most budgets are small."""
+    chance = r.choice([0.2, 0.5, 1.0])
+    before = [r.randint(1, 3) if r.random() < chance else 0 for _ in range(op_count(c.patch) + 1)]
+    past = 0 if c.sort == FRESH else r.randint(0, before[c.machine.position])
+    c = annotated(c, before)
+    if r.random() < 0.7:
+        c.budget = r.choice([0, 1, 2, 3, 5, 8])
+    if c.sort == RUN:
+        c.machine.position += past
+        if r.random() < 0.2:
+            stepped(c)
+    c.style = "annotated"
+    return c
+
+
+def short_comments():
+    """Every patch of up to 3 ops with a comment, and of 4 with two, from fresh with budgets 0 to 3."""
+    for n in range(1, 5):
+        for ops in itertools.product([NOTE] + AROUND, repeat=n):
+            if ops.count(NOTE) > (n == 4):
+                for budget in range(4):
+                    yield fresh(b"".join(ops), budget=budget)
+
+
+def budgets(c, *some):
+    """The case with each of these budgets; then by a step, if it is handed a state."""
+    for budget in some:
+        c = copy.copy(c)
+        c.budget = budget
+        yield c
+    if c.sort == RUN:
+        yield stepped(copy.copy(c))
+
+
+def comments():
+    """Comments alone, around jumps, before refusals and where the budget is spent; and where none is passed."""
+    free = op(FREE)
+    for n in range(6):
+        yield from budgets(fresh(NOTE * n), 0, 1, 2)
+    # a state that stands at a comment; a halted one stays there
+    for halted in (0, 1):
+        for data in (NOTE, NOTE * 3, NOTE * 2 + free, NOTE + free + NOTE * 2):
+            for position in range(op_count(data) + 1):
+                yield from budgets(at_limit(data, position=position, halted=halted), 0, 1)
+    # around one op; after a Return that halts none is passed
+    for one in (free, op(RETURN), op(SET, 7), op(END)):
+        for before, after in ((0, 2), (1, 0), (3, 1)):
+            for call in (fresh, at_limit):
+                yield from budgets(call(NOTE * before + one + NOTE * after), 0, 1, 2)
+    # before an op that is refused, at the start and after a step that stands
+    lacking = [(op(model01.ADD, 9), {}), (op(model01.ADD, 2), dict(pointer=29_999)), (op(LOAD, 2), dict(pointer=15)), (op(WHILE), dict(lanes=0)),
+               (op(CALL), dict(lane=0, calls=[0] * 256))]
+    for one, said in lacking + REFUSED:
+        said = dict(dict(lanes=7, pointer=3), **said)
+        yield from budgets(annotated(laned(one, **said), [2, 1]), 0, 1)
+        yield from budgets(annotated(laned(free + one, **said), [0, 2, 0]), 1, 2)
+    # before and after each jump, taken and not, and at the places that it goes to
+    put, less = op(PUT, 1), op(model01.DEC, 1)
+    routine = op(FUNCTION) + put + op(RETURN) + op(END)
+    jumps = [laned(data, lane=lane) for lane in (0, 1) for data in (
+        op(IF) + put + op(END) + put, op(IF) + put + op(ELSE) + less + op(END) + put, op(WHILE) + less + op(END) + put,
+        op(WHILE) + op(ELSE) + put + op(END) + put, op(FUNCTION) + op(END) + put + op(CALL), routine + op(CALL) + put)]
+    for c in (*jumps, fresh(op(SET, 1) + op(CALL) + op(SET, 0) + op(CALL) + op(RETURN) + routine * 2)):
+        n = op_count(c.patch) + 1
+        yield from budgets(annotated(c, [1 + k % 2 for k in range(n)]), *range(n))
+    # after a saved place: a call's, a comment's, the last op's
+    for calls in ([1], [2], [3], [4], [5], [5, 1]):
+        yield from budgets(at_limit(op(RETURN) + free + NOTE * 2 + free + NOTE, calls=calls), 0, 1, 2, 3)
+    # 37 and a file's refusal change nothing, the position included
+    for position in (0, 1):
+        for numbers in (dict(counted=1), dict(pointer=1_000_000_001), dict(calls=[3]), dict(first=256), dict(taken=1), dict(written=5)):
+            yield from budgets(at_limit(NOTE * 2 + free, **dict(numbers, position=position)), 0, 5)
+        yield from budgets(at_limit(NOTE * 2 + free[:5], position=position), 0, 5)
+        c = at_limit(NOTE * 2 + free, position=position)
+        c.register = c.register[1:]
+        yield from budgets(c, 0)
+    yield from budgets(at_limit(NOTE * 2, position=3), 0)
+    c = fresh(NOTE * 2)
+    c.table = c.table[1:]
+    yield c
+    # as many as a patch holds, the longest, and one that is no text
+    for data in (NOTE * 4096, NOTE * 4095 + free, op(COMMENT, b"c" * 255) * 2 + free, op(COMMENT, b"\xff") + free):
+        yield fresh(data, budget=0)
 
 
 # ---- 01's own cases
@@ -1011,6 +1127,7 @@ def smallest():
     c.tape[0] = 1
     yield "lent cells not zero", "dirty", c
     yield "comment bytes", "utf8", fresh(op(COMMENT, b"\xff"))
+    yield "comment as a step", "agree", fresh(NOTE, budget=0)
 
 
 def rusts_own():
@@ -1039,6 +1156,8 @@ def rusts_own():
     yield "short tape", said(at_limit(op(ALLOC), counted=29_999), 1, 0, [59_998], position=1, counted=59_999)
     yield "short tape", said(at_limit(op(LOAD, 1), counted=29_999), 1, 0, [0], position=1, lanes=1, counted=29_999)
     yield "lent tape", said(fresh(op(LOAD, 1)), 1, 0, [0], position=1, lanes=1, counted=100_000)
+    yield "comment as a step", said(fresh(NOTE), 0, 50, [])
+    yield "comment as a step", said(fresh(NOTE), 1, 0, [], position=1)
 
 
 def answered(cases):
@@ -1051,7 +1170,7 @@ def main(args):
     if args[:1] == ["exhaustive"]:
         cases = exhaustive()
     elif args[:1] == ["boundary"]:
-        cases = itertools.chain(paper(), boundary(), partners(), missing())
+        cases = itertools.chain(paper(), boundary(), partners(), missing(), comments(), short_comments())
     elif args[:1] == ["smallest"]:
         cases = (c for _, _, c in smallest())
     elif args[:1] == ["random"] and len(args) == 3:

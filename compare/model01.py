@@ -447,6 +447,12 @@ def missing_lane(number, m, s):
     return 0
 
 
+def pass_comments(ops, m):
+    """02, ask 8: "a comment is passed without being counted, also when the budget is spent"; "Once passed it stays passed"."""
+    while not m.halted and m.position < len(ops) and ops[m.position].kind == COMMENT:
+        m.position += 1
+
+
 def run(c):
     """A run from a state, a step, which is a run of one step, or the fresh run."""
     a = Answer(0, 0)
@@ -464,6 +470,7 @@ def run(c):
         a.tape[:] = [0] * len(a.tape)
         a.register[:LANES] = [0] * LANES
     while True:
+        pass_comments(ops, m)
         a.place = m.position
         if m.halted or m.position == len(ops):
             return a

@@ -13,6 +13,7 @@ import command
 import lists
 
 LANE = "        a.lane = missing_lane(a.number, m, a)\n"
+PASS = "        pass_comments(ops, m)\n"
 # what is wrong, the line of model01.py that says it right, and the wrong one
 READINGS = [
     ("End goes back to test the While again", "                m.position = partner\n", "                m.position = partner - 1\n"),
@@ -105,13 +106,27 @@ READINGS = [
      "        if m.halted or m.position == len(ops):\n            a.lane = m.lanes\n            return a\n"),
     ("37 carries the register's length", "        a.number, a.place = 37, 0\n", "        a.number, a.place, a.lane = 37, 0, m.lanes\n"),
 ]
+# of comments (02, ask 8)
+OF_COMMENTS = [
+    ("a comment is a step", PASS, ""),
+    ("a comment that a jump goes to is a step", PASS, "        if a.steps == 0 or m.position == a.place + 1:\n    " + PASS),
+    ("a comment at the start is a step", PASS, "        if a.steps:\n    " + PASS),
+    ("of several comments the first alone is passed", "    while not m.halted", "    if not m.halted"),
+    ("no comment is passed where the budget is spent", PASS, "        if a.steps != c.budget:\n    " + PASS),
+    ("a step leaves the comments after it", PASS, "        if c.sort != STEP or a.steps == 0:\n    " + PASS),
+    ("an answer's place is that of the comments", PASS + "        a.place = m.position\n", "        a.place = m.position\n" + PASS),
+    ("a refused step goes back before the comments", LANE,
+     LANE + "        while a.number and m.position and ops[m.position - 1].kind == COMMENT:\n            m.position -= 1\n"),
+    ("a halted machine passes comments", "while not m.halted and ", "while "),
+    ("37 passes comments", "        a.number, a.place = 37, 0\n", "        a.number, a.place = 37, 0\n" + PASS),
+]
 
 
-def planted():
-    """Each wrong reading with the model that has it."""
+def planted(readings):
+    """Each of these wrong readings with the model that has it."""
     with open(os.path.join(HERE, "model01.py")) as f:
         source = f.read()
-    for what, old, new in READINGS:
+    for what, old, new in readings:
         if source.count(old) != 1:
             sys.exit("plant.py: the line for '%s' stands %d times in model01.py" % (what, source.count(old)))
         module = types.ModuleType("planted")
@@ -137,7 +152,7 @@ def main(args):
         with open(os.path.join(HERE, "..", "lists", name + ".list"), "rb") as f:
             cases += [(c, data) for data in lists.split(f.read()) for c in lists.read(data)]
     missed = 0
-    for what, wrong in planted():
+    for what, wrong in planted(READINGS + OF_COMMENTS):
         found = sum(finds(wrong, c, data) for c, data in cases)
         print("%5d  %s" % (found, what), flush=True)
         missed += not found

@@ -29,6 +29,8 @@ NUMBERS = [0, *range(1, 14), *range(20, 31), *range(32, 38), 40, 50]
 OFTEN = 3
 # cases for each wrong reading
 TELLING = 6
+# random runs with comments
+ANNOTATED = 100
 # joinings and flattenings that are written
 SHAPES = 330
 WIDE = 900
@@ -89,16 +91,20 @@ def replay_list(judge):
         if len(data) < (FULL if s == "boundary" else LONG) and styles.get(s, 0) < STYLES.get(s, 0):
             styles[s] = styles.get(s, 0) + 1
             keep(c, data)
-    # each wrong reading that plant.py knows is found by some cases
     pool = edges + [(c, data) for c, data, _ in settled(judge, generate.randoms(2028, 3000)) if len(data) < FULL]
-    for _, wrong in plant.planted():
-        found = sum(plant.finds(wrong, next(lists.read(data)), data) for data in kept)
-        for c, data in pool:
-            if found >= TELLING:
-                break
-            if len(data) < FULL and data not in kept and plant.finds(wrong, next(lists.read(data)), data):
-                keep(c, data)
-                found += 1
+
+    def tell(readings):
+        """Each wrong reading of plant.py is found by some cases."""
+        for _, wrong in plant.planted(readings):
+            found = sum(plant.finds(wrong, next(lists.read(data)), data) for data in kept)
+            for c, data in pool:
+                if found >= TELLING:
+                    break
+                if len(data) < FULL and data not in kept and plant.finds(wrong, next(lists.read(data)), data):
+                    keep(c, data)
+                    found += 1
+
+    tell(plant.READINGS)
     for number in NUMBERS:
         for c, data in edges:
             if c.answer.number == number and numbers.get(number, 0) < OFTEN:
@@ -106,6 +112,13 @@ def replay_list(judge):
     # which lane was missing
     for c, data, _ in settled(judge, generate.missing()):
         keep(c, data)
+    # comments, and random runs with them
+    for c, data, _ in settled(judge, generate.comments()):
+        keep(c, data)
+    annotated = settled(judge, (c for c in generate.randoms(2029, 3000) if c.style == "annotated"))
+    for c, data, _ in itertools.islice((told for told in annotated if len(told[1]) < LONG), ANNOTATED):
+        keep(c, data)
+    tell(plant.OF_COMMENTS)
     for number in NUMBERS:
         if numbers.get(number, 0) < OFTEN:
             sys.exit("lists/make.py: number %d is met %d times" % (number, numbers.get(number, 0)))

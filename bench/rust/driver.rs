@@ -106,7 +106,8 @@ fn same(a: u64, b: u64) -> bool {
     a == b || is_nan(a) && is_nan(b)
 }
 
-/// The steps of the patch, once both machines agree on them, on the outputs and on the state they leave.
+/// The steps of the patch, once both machines agree on them, on the outputs and on the state they leave. The Rust steps over comments too, and those
+/// steps are not counted.
 fn agreed(c: &Case, lent: &mut Lent) -> u64 {
     let number = lent.run(c);
     assert_eq!(number, 0, "{}: our machine answers {number} at {}", c.name, lent.answer[1]);
@@ -115,8 +116,9 @@ fn agreed(c: &Case, lent: &mut Lent) -> u64 {
     let mut vm = probed::vm::StandardInterpreter::new(device);
     let mut steps = 0;
     while !*vm.parts().done && *vm.parts().i < code.0.len() {
+        let comment = matches!(code.0[*vm.parts().i], probed::vm::StandardOp::CoreOp(probed::vm::CoreOp::Comment(_)));
         vm.one_step(&code).unwrap();
-        steps += 1;
+        steps += !comment as u64;
     }
     assert_eq!(lent.answer[2], steps, "{}: steps", c.name);
     assert_eq!(lent.answer[4], 0, "{}: a lane of a finished run", c.name);

@@ -1,12 +1,13 @@
 //! The judge: reads a list of cases (docs/REPLAY.md) on standard input, runs the Rust on each, and writes one line for each:
-//! sort, expected number, verdict, kind of the refused op (or -), how many NaNs were brought to the fixed bits, and 1 where the
-//! Rust's panic names the lane that the answer gives, else 0.
+//! sort, expected number, verdict, kind of the refused op (or -), how many NaNs were brought to the fixed bits, 1 where the Rust's
+//! panic names the lane that the answer gives, else 0, and how many steps over comments were not counted.
 //!
 //! Verdicts: `agree`, `differ` with what differs after it, and, where the expected answer is a refusal at a step, what the Rust
 //! does at that op after agreeing on every step before: `went` on, `err`, `panic`, `hang`, `big` (more room than the judge has).
 //! `port` is an answer that only the port gives (files, 37, 40, the check); `utf8` and `dirty` are cases outside the domain.
 //!
-//! With --raw nothing is looked at before a step or changed after it: a hang is a hang, a NaN has the processor's bits.
+//! With --raw nothing is looked at before a step or changed after it: a hang is a hang, a NaN has the processor's bits, a comment is
+//! a step.
 
 mod patch;
 mod side_effects;
@@ -75,13 +76,15 @@ fn has_partner(kinds: &[u16], i: usize, at_else: bool) -> bool {
 
 type Vm = StandardInterpreter<TestingDevice>;
 
-/// Number, verdict, kind, NaNs, and whether the lane was named.
-type Verdict = (usize, String, String, usize, usize);
+/// Number, verdict, kind; then NaNs, whether the lane was named, and comments.
+type Verdict = (usize, String, String, [usize; 3]);
 
 /// What is noted of the steps of a run.
 struct Seen {
     /// NaNs that were brought to the fixed bits
     nans: usize,
+    /// comments that were stepped over
+    comments: usize,
     /// the length and the index that the last panic names, if it was at an index
     index: Option<(usize, usize)>,
 }
@@ -199,23 +202,23 @@ fn run(r: &mut Reader, fresh: bool, one: bool, raw: bool) -> Verdict {
     let channel2 = r.sparse(channel.len());
     let outputs2 = r.sparse(outputs.len());
     assert!(!one || budget == 1 && steps < 2 && number != 50, "more than one step");
-    let mut seen = Seen { nans: 0, index: None };
+    let mut seen = Seen { nans: 0, comments: 0, index: None };
     let no_kind = "-".to_string();
     if (1..10).contains(&number) || number == 37 {
-        return (number, "port".into(), no_kind, 0, 0);
+        return (number, "port".into(), no_kind, [0; 3]);
     }
     let Some((code, kinds)) = ops(patch) else {
-        return (number, "utf8".into(), no_kind, 0, 0);
+        return (number, "utf8".into(), no_kind, [0; 3]);
     };
     let code = StandardProgram(code);
     let mut vm = StandardInterpreter::new(TestingDevice::new_raw(inputs.clone()));
     let mut written = 0;
     if let Some(s) = start {
         if tape.iter().skip(s.counted).any(|c| *c != 0) {
-            return (number, "dirty".into(), no_kind, 0, 0);
+            return (number, "dirty".into(), no_kind, [0; 3]);
         }
         if s.counted > ROOM {
-            return (number, "big".into(), no_kind, 0, 0);
+            return (number, "big".into(), no_kind, [0; 3]);
         }
         written = s.written;
         let p = vm.parts();
@@ -237,12 +240,18 @@ fn run(r: &mut Reader, fresh: bool, one: bool, raw: bool) -> Verdict {
         let p = vm.parts();
         *p.done || *p.i >= kinds.len()
     };
-    let differ = |what: String| (number, format!("differ:{what}"), "-".to_string(), 0, 0);
+    let differ = |what: String| (number, format!("differ:{what}"), "-".to_string(), [0; 3]);
     let mut made = 0;
-    while made < steps && !over(&mut vm) {
+    while !over(&mut vm) {
+        // 02, ask 8: the Rust's step over a comment is not counted, and is made before each test
+        let comment = !raw && matches!(code.0[*vm.parts().i], StandardOp::CoreOp(CoreOp::Comment(_)));
+        if made == steps && !comment {
+            break;
+        }
         match step(&mut vm, &code, &kinds, raw, &mut seen) {
+            "went" if comment => seen.comments += 1,
             "went" => made += 1,
-            "big" => return (number, "big".into(), no_kind, seen.nans, 0),
+            "big" => return (number, "big".into(), no_kind, [seen.nans, 0, seen.comments]),
             other => return differ(format!("{other}-at-step-{made}")),
         }
     }
@@ -295,10 +304,14 @@ fn run(r: &mut Reader, fresh: bool, one: bool, raw: bool) -> Verdict {
         }
     }
     let ended = over(&mut vm);
+    // an op that is refused is within the budget too
+    if steps > budget || steps == budget && number != 0 && number != 50 {
+        return differ("budget".into());
+    }
     match number {
-        0 if ended || one && steps == 1 => (number, "agree".into(), no_kind, seen.nans, 0),
+        0 if ended || one && steps == 1 => (number, "agree".into(), no_kind, [seen.nans, 0, seen.comments]),
         0 => differ("not-over".into()),
-        50 if !ended && steps == budget => (number, "agree".into(), no_kind, seen.nans, 0),
+        50 if !ended && steps == budget => (number, "agree".into(), no_kind, [seen.nans, 0, seen.comments]),
         50 => differ("over".into()),
         _ if ended => differ("over".into()),
         _ => {
@@ -313,7 +326,7 @@ fn run(r: &mut Reader, fresh: bool, one: bool, raw: bool) -> Verdict {
                     Err(what) => return differ(what),
                 }
             }
-            (number, what.into(), kind.to_string(), seen.nans, named as usize)
+            (number, what.into(), kind.to_string(), [seen.nans, named as usize, seen.comments])
         }
     }
 }
@@ -345,7 +358,7 @@ fn join(r: &mut Reader) -> Verdict {
     } else {
         "utf8".into()
     };
-    (number, verdict, "-".into(), 0, 0)
+    (number, verdict, "-".into(), [0; 3])
 }
 
 fn flatten(r: &mut Reader) -> Verdict {
@@ -378,7 +391,7 @@ fn flatten(r: &mut Reader) -> Verdict {
                     let body = &functions[&n];
                     found.push([n as usize, first, body.len()]);
                     if flat.0[first..first + body.len()] != body[..] && !has_nan(body) {
-                        return (number, "differ:body".into(), kind, 0, 0);
+                        return (number, "differ:body".into(), kind, [0; 3]);
                     }
                     first += body.len();
                 }
@@ -396,7 +409,7 @@ fn flatten(r: &mut Reader) -> Verdict {
     } else {
         "utf8".into()
     };
-    (number, verdict, kind, 0, 0)
+    (number, verdict, kind, [0; 3])
 }
 
 /// An op that holds a NaN is not equal to itself.
@@ -414,7 +427,7 @@ fn judge() {
         let case = list.counted();
         let mut r = Reader { bytes: case, at: 0 };
         let sort = r.u8();
-        let (number, verdict, kind, nans, named) = match sort {
+        let (number, verdict, kind, [nans, named, comments]) = match sort {
             0 => run(&mut r, false, false, raw),
             1 => run(&mut r, true, false, raw),
             2 => join(&mut r),
@@ -423,13 +436,13 @@ fn judge() {
                 r.counted();
                 let number = r.u32();
                 r.u32();
-                (number, "port".into(), "-".into(), 0, 0)
+                (number, "port".into(), "-".into(), [0; 3])
             }
             5 => run(&mut r, false, true, raw),
             s => panic!("no sort {s}"),
         };
         assert!(verdict.starts_with("differ") || r.at == case.len(), "a case of sort {sort} has bytes left over");
-        writeln!(out, "{sort} {number} {verdict} {kind} {nans} {named}").unwrap();
+        writeln!(out, "{sort} {number} {verdict} {kind} {nans} {named} {comments}").unwrap();
     }
 }
 

@@ -6,7 +6,7 @@
 
 A case of the text: its name on a line of its own, then lines 'do:' (join or flatten, where it is no run), 'ops:' (separated by ';', as
 patches/make.py takes them), 'input:', 'cells:', 'room:', 'register:' and 'budget:' where they are not the usual ones, and 'gives:', the
-answer, written by hand from document 01. An empty line ends a case; '#' starts a remark. Ops in braces in an answer stand for their bytes in hex.
+answer, written by hand from documents 01 and 02. An empty line ends a case; '#' starts a remark. Ops in braces in an answer stand for their bytes in hex.
 """
 import pathlib
 import re

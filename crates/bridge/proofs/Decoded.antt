@@ -24,11 +24,13 @@ use Rattle.file_laws.proofs.Rows.{Row, row-rule}
 use Rattle.file_laws.proofs.Fitting.{below-all, item-fits}
 use Rattle.file_laws.proofs.Meaning.{means}
 use Rattle.machine_model.specs.Scan.{opAt, brackets, functions}
+use Rattle.machine_model.specs.Passed.{comments}
 use Rattle.machine_model.specs.Limited.{count, Limited}
 use Rattle.partners.specs.Columns.{rowBracket, rowFunction, Stored}
 use Rattle.machine_numbers.specs.Asks.{PayloadIn}
 use Rattle.machine_step.specs.Payloads.{PayloadsInBytes}
 use Rattle.bridge.specs.Decoded.{codeOf, givenOf}
+use Rattle.bridge.specs.Run.{rowComment}
 use Rattle.bridge.proofs.Families.{Told, op-row}
 use Rattle.bridge.proofs.Control.{Rows}
 
@@ -62,6 +64,10 @@ module _ (s : List ℕ) where
   looped-are (x ∷ xs) e zero = sym (told s x (e .0) .looped)
   looped-are (x ∷ xs) e (suc j) = looped-are xs (e .1) j
 
+  noted-are : (xs : List Item) → Every (IsItem s) xs → comments (map (file.opAt s) xs) ≡ map rowComment (map rowIn xs)
+  noted-are [] e = refl
+  noted-are (x ∷ xs) e = ap₂ (λ (a : Bool) (l : List Bool). a ∷ l) (sym (told s x (e .0) .noted)) (noted-are xs (e .1))
+
   -- the rows that the machine reads are to its searches what the ops are
   pub rows : (input : List ℕ) (room : ℕ) → Rows (givenOf s input room .ops) (codeOf s .rows)
   unfolding codeOf givenOf
@@ -74,6 +80,11 @@ module _ (s : List ℕ) where
         entered = entered-are xs e;
         looped = looped-are xs e;
       }
+
+  -- and tell the same comments
+  pub comments-are : (input : List ℕ) (room : ℕ) → comments (givenOf s input room .ops) ≡ map rowComment (codeOf s .rows)
+  unfolding codeOf givenOf
+  comments-are input room = noted-are (patchOf s .items) (items-are s)
 
 -- ---- an array's entry is its item's
 

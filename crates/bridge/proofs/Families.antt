@@ -16,13 +16,16 @@ use Rattle.ops.specs.Syntax.Control.{function, call, ret, while, if, else, end}
 use Rattle.ops.specs.Syntax.Plain.{comment, store, move, swap, locate, offset, deref, refer, cell, lane, get, put, peek, poke, alloc, free}
 use Rattle.ops.specs.Syntax.Sort.{ints, floats}
 use Rattle.ops.specs.Syntax.Op.{control, set, load, plain}
+use Rattle.machine_model.specs.Passed.{isComment}
 use Rattle.partners.specs.Columns.{rowBracket, rowFunction}
+use Rattle.bridge.specs.Run.{rowComment}
 
 -- the row k is to the searches what the op o is
 pub record Told (k : ℕ) (o : Op) : Type 0 where
   pub marked : rowBracket k ≡ bracket o
   pub entered : rowFunction k ≡ isFunction o
   pub looped : eqb k 5 ≡ isWhile o
+  pub noted : rowComment k ≡ isComment o
 
 pub record CellRow (k n : ℕ) (o : CellOp) : Type 0 where
   pub family : familyOf k ≡ cellFamily
@@ -36,79 +39,79 @@ pub record LaneRow (k n : ℕ) (o : LaneOp) : Type 0 where
 
 module _ {n : ℕ} where
   pub cell-row : (o : CellOp) → CellRow (indexOf (cellKind o)) n o
-  unfolding indexOf rowBracket rowFunction familyOf cellRow pick
-  cell-row Index = record { family = refl; rule = refl; told = record { marked = refl; entered = refl; looped = refl } }
-  cell-row BitwiseNand = record { family = refl; rule = refl; told = record { marked = refl; entered = refl; looped = refl } }
-  cell-row BitwiseAnd = record { family = refl; rule = refl; told = record { marked = refl; entered = refl; looped = refl } }
-  cell-row BitwiseOr = record { family = refl; rule = refl; told = record { marked = refl; entered = refl; looped = refl } }
-  cell-row BitwiseXor = record { family = refl; rule = refl; told = record { marked = refl; entered = refl; looped = refl } }
-  cell-row LeftShift = record { family = refl; rule = refl; told = record { marked = refl; entered = refl; looped = refl } }
-  cell-row LogicalRightShift = record { family = refl; rule = refl; told = record { marked = refl; entered = refl; looped = refl } }
-  cell-row ArithmeticRightShift = record { family = refl; rule = refl; told = record { marked = refl; entered = refl; looped = refl } }
-  cell-row And = record { family = refl; rule = refl; told = record { marked = refl; entered = refl; looped = refl } }
-  cell-row Or = record { family = refl; rule = refl; told = record { marked = refl; entered = refl; looped = refl } }
-  cell-row Add = record { family = refl; rule = refl; told = record { marked = refl; entered = refl; looped = refl } }
-  cell-row Sub = record { family = refl; rule = refl; told = record { marked = refl; entered = refl; looped = refl } }
-  cell-row Mul = record { family = refl; rule = refl; told = record { marked = refl; entered = refl; looped = refl } }
-  cell-row Div = record { family = refl; rule = refl; told = record { marked = refl; entered = refl; looped = refl } }
-  cell-row Rem = record { family = refl; rule = refl; told = record { marked = refl; entered = refl; looped = refl } }
-  cell-row FloatAdd = record { family = refl; rule = refl; told = record { marked = refl; entered = refl; looped = refl } }
-  cell-row FloatSub = record { family = refl; rule = refl; told = record { marked = refl; entered = refl; looped = refl } }
-  cell-row FloatMul = record { family = refl; rule = refl; told = record { marked = refl; entered = refl; looped = refl } }
-  cell-row FloatDiv = record { family = refl; rule = refl; told = record { marked = refl; entered = refl; looped = refl } }
-  cell-row FloatRem = record { family = refl; rule = refl; told = record { marked = refl; entered = refl; looped = refl } }
+  unfolding indexOf rowBracket rowFunction rowComment familyOf cellRow pick
+  cell-row Index = search
+  cell-row BitwiseNand = search
+  cell-row BitwiseAnd = search
+  cell-row BitwiseOr = search
+  cell-row BitwiseXor = search
+  cell-row LeftShift = search
+  cell-row LogicalRightShift = search
+  cell-row ArithmeticRightShift = search
+  cell-row And = search
+  cell-row Or = search
+  cell-row Add = search
+  cell-row Sub = search
+  cell-row Mul = search
+  cell-row Div = search
+  cell-row Rem = search
+  cell-row FloatAdd = search
+  cell-row FloatSub = search
+  cell-row FloatMul = search
+  cell-row FloatDiv = search
+  cell-row FloatRem = search
 
   pub lane-row : (o : LaneOp) → LaneRow (indexOf (laneKind o)) n o
-  unfolding indexOf rowBracket rowFunction familyOf laneRow pick
-  lane-row BitwiseNot = record { family = refl; rule = refl; told = record { marked = refl; entered = refl; looped = refl } }
-  lane-row Not = record { family = refl; rule = refl; told = record { marked = refl; entered = refl; looped = refl } }
-  lane-row Neg = record { family = refl; rule = refl; told = record { marked = refl; entered = refl; looped = refl } }
-  lane-row Inc = record { family = refl; rule = refl; told = record { marked = refl; entered = refl; looped = refl } }
-  lane-row Dec = record { family = refl; rule = refl; told = record { marked = refl; entered = refl; looped = refl } }
-  lane-row IsNonNegative = record { family = refl; rule = refl; told = record { marked = refl; entered = refl; looped = refl } }
-  lane-row ToInt = record { family = refl; rule = refl; told = record { marked = refl; entered = refl; looped = refl } }
-  lane-row ToFloat = record { family = refl; rule = refl; told = record { marked = refl; entered = refl; looped = refl } }
-  lane-row FloatNeg = record { family = refl; rule = refl; told = record { marked = refl; entered = refl; looped = refl } }
-  lane-row FloatIsNonNegative = record { family = refl; rule = refl; told = record { marked = refl; entered = refl; looped = refl } }
+  unfolding indexOf rowBracket rowFunction rowComment familyOf laneRow pick
+  lane-row BitwiseNot = search
+  lane-row Not = search
+  lane-row Neg = search
+  lane-row Inc = search
+  lane-row Dec = search
+  lane-row IsNonNegative = search
+  lane-row ToInt = search
+  lane-row ToFloat = search
+  lane-row FloatNeg = search
+  lane-row FloatIsNonNegative = search
 
 control-row : (x : Control) → Told (indexOf (controlKind x)) (control x)
-unfolding indexOf rowBracket rowFunction pick
-control-row function = record { marked = refl; entered = refl; looped = refl }
-control-row call = record { marked = refl; entered = refl; looped = refl }
-control-row ret = record { marked = refl; entered = refl; looped = refl }
-control-row while = record { marked = refl; entered = refl; looped = refl }
-control-row if = record { marked = refl; entered = refl; looped = refl }
-control-row else = record { marked = refl; entered = refl; looped = refl }
-control-row end = record { marked = refl; entered = refl; looped = refl }
+unfolding indexOf rowBracket rowFunction rowComment pick
+control-row function = search
+control-row call = search
+control-row ret = search
+control-row while = search
+control-row if = search
+control-row else = search
+control-row end = search
 
 set-row : (k : Sort) (vs : List ℕ) → Told (indexOf (setKind k)) (set k vs)
-unfolding indexOf rowBracket rowFunction pick
-set-row ints vs = record { marked = refl; entered = refl; looped = refl }
-set-row floats vs = record { marked = refl; entered = refl; looped = refl }
+unfolding indexOf rowBracket rowFunction rowComment pick
+set-row ints vs = search
+set-row floats vs = search
 
 plain-row : (p : Plain) → Told (indexOf (plainKind p)) (plain p)
-unfolding indexOf rowBracket rowFunction pick
-plain-row (comment bs) = record { marked = refl; entered = refl; looped = refl }
-plain-row (store n) = record { marked = refl; entered = refl; looped = refl }
-plain-row (move v) = record { marked = refl; entered = refl; looped = refl }
-plain-row (swap n) = record { marked = refl; entered = refl; looped = refl }
-plain-row locate = record { marked = refl; entered = refl; looped = refl }
-plain-row (offset v n) = record { marked = refl; entered = refl; looped = refl }
-plain-row deref = record { marked = refl; entered = refl; looped = refl }
-plain-row refer = record { marked = refl; entered = refl; looped = refl }
+unfolding indexOf rowBracket rowFunction rowComment pick
+plain-row (comment bs) = search
+plain-row (store n) = search
+plain-row (move v) = search
+plain-row (swap n) = search
+plain-row locate = search
+plain-row (offset v n) = search
+plain-row deref = search
+plain-row refer = search
 plain-row (cell o n) = cell-row o .told
 plain-row (lane o n) = lane-row o .told
-plain-row (get d) = record { marked = refl; entered = refl; looped = refl }
-plain-row (put d) = record { marked = refl; entered = refl; looped = refl }
-plain-row peek = record { marked = refl; entered = refl; looped = refl }
-plain-row poke = record { marked = refl; entered = refl; looped = refl }
-plain-row alloc = record { marked = refl; entered = refl; looped = refl }
-plain-row free = record { marked = refl; entered = refl; looped = refl }
+plain-row (get d) = search
+plain-row (put d) = search
+plain-row peek = search
+plain-row poke = search
+plain-row alloc = search
+plain-row free = search
 
 -- the row of any op
 pub op-row : (o : Op) → Told (indexOf (kindOf o)) o
-unfolding indexOf rowBracket rowFunction pick
+unfolding indexOf rowBracket rowFunction rowComment pick
 op-row (control x) = control-row x
 op-row (set k vs) = set-row k vs
-op-row (load n) = record { marked = refl; entered = refl; looped = refl }
+op-row (load n) = search
 op-row (plain p) = plain-row p

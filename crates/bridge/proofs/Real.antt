@@ -1,6 +1,6 @@
 -- A step that is not over goes on or refuses with a number that is not 0: only its first test finishes. Assumes nothing.
 use mathlib.Core.Path.{_≡_, refl}
-use mathlib.Core.Bool.{true, false, _||_}
+use mathlib.Core.Bool.{false, _||_}
 use Prim.Native.Nat.{ℕ}
 use native.Mathlib.Omega.{arith}
 use borrow.Author.Tests.{leb-true, ne-eqb}
@@ -9,8 +9,8 @@ use lib.ListN.{length}
 use Rattle.basics.proofs.Clash.{clash}
 use Rattle.ops.specs.Syntax.{Op}
 use Rattle.machine_model.specs.State.{State, Given}
-use Rattle.machine_model.specs.Step.{Outcome, pick, step}
-use Rattle.machine_model.specs.Step.Outcome.{finished, refused, next}
+use Rattle.machine_model.specs.Step.{Outcome, step}
+use Rattle.machine_model.specs.Step.Outcome.{refused, next}
 use Rattle.machine_model.proofs.Outcomes.{Gives}
 use Rattle.machine_model.proofs.Effects.{Over, Refusal, step-does}
 use Rattle.machine_model.proofs.Effects.Refusal.{lost, narrow, short, cut, other}
@@ -34,7 +34,3 @@ module _ (g : Given) (s : State) (e : (s .halted || leb (length (g .ops)) (s .at
 
 pub step-real : (g : Given) (s : State) → (s .halted || leb (length (g .ops)) (s .at)) ≡ false → Real (step g s)
 step-real g s e = real g s e _ _ _ (step-does g (λ j. Unit {0}) (λ j h. tt) s)
-
-pub step-over : (g : Given) (s : State) → (s .halted || leb (length (g .ops)) (s .at)) ≡ true → step g s ≡ finished
-unfolding step pick
-step-over g s e = rw e refl

@@ -1,10 +1,11 @@
 -- A run as the code makes it is the model's run, laid after each step; and what is seen of it is the model's answer. Assumes nothing.
 use mathlib.Core.Path.{_≡_, _∙_, refl, ap, sym, subst}
-use mathlib.Core.Bool.{Bool, true, false, _||_}
+use mathlib.Core.Bool.{Bool, true, false, cond, _||_}
 use mathlib.Core.List.{List}
 use Prim.Native.Nat.{ℕ, zero, suc, _≤_}
+use native.Mathlib.Omega.{arith}
 use lib.Dec.{leb}
-use lib.ListN.{length}
+use lib.ListN.{length, drop}
 use borrow.Author.Tests.{leb-false}
 use Rattle.basics.specs.Pick.{pick}
 use Rattle.basics.proofs.Tests.{byCase, or-left, or-right}
@@ -12,20 +13,37 @@ use Rattle.answers.specs.declared.run.Answer.the-variants.{Finished}
 use Rattle.machine_model.specs.State.{State, Given, fresh}
 use Rattle.machine_model.specs.Step.{Outcome, step}
 use Rattle.machine_model.specs.Step.Outcome.{finished, refused, next}
+use Rattle.machine_model.specs.Passed.{past, passed}
 use Rattle.machine_model.specs.Run.{drive, run}
 use Rattle.machine_model.specs.Formed.{Formed}
+use Rattle.machine_model.proofs.Passing.{passed-within}
+use Rattle.machine_model.proofs.Effects.{step-over}
 use Rattle.machine_model.proofs.Kept.{step-formed, fresh-formed}
 use Rattle.machine_step.specs.Held.{Held}
 use Rattle.machine_step.specs.Step.{stepOf}
 use Rattle.bridge.specs.View.{view, lay, laid}
 use Rattle.bridge.specs.Decoded.{codeOf, givenOf, givenTo}
 use Rattle.bridge.specs.Fits.{Fits}
-use Rattle.bridge.specs.Run.{ran, driveLaid, runLaid, seen, isOver, runOf}
+use Rattle.bridge.specs.Run.{ran, standing, passedIn, driveLaid, runLaid, seen, isOver, pastOf, pastIn, driveOf, runOf}
 use Rattle.bridge.proofs.Over.{view-lay, lay-counted, lay-room}
-use Rattle.bridge.proofs.Decoded.{Bytes, rows, limited}
-use Rattle.bridge.proofs.Real.{Real, step-real, step-over}
+use Rattle.bridge.proofs.Decoded.{Bytes, rows, comments-are, limited}
+use Rattle.bridge.proofs.Real.{Real, step-real}
 use Rattle.bridge.proofs.Real.Real.{goes, stops}
 use Rattle.bridge.proofs.Steps.{step-is}
+
+-- ---- comments passed
+
+-- what is seen of it
+pub seen-passed : (g : Given) (c : Held) → view (passedIn g c) ≡ passed g (view c)
+unfolding passedIn passed
+seen-passed g c = refl
+
+-- the code's search is the model's
+pub past-is : (s input : List ℕ) (room : ℕ) (c : Held) → pastIn (codeOf s) c ≡ passedIn (givenOf s input room) c
+unfolding pastIn pastOf passedIn passed
+past-is s input room c =
+    let at = c .numbers .position in
+    ap (λ (l : List Bool). standing c (cond (c .numbers .halted) at (past at (drop at l)))) (sym (comments-are s input room))
 
 -- ---- what a step hands to the next
 
@@ -43,6 +61,21 @@ module _ (s input : List ℕ) where
   -- a state of the patch laid over what fits it fits it
   pub lay-fits : (t : State) (c : Held) → Fits s input c → Formed (givenTo s input c) t → Fits s input (lay t c)
   lay-fits t c h f = let k = h .counted in lay-over t c (k .wide) (k .tabled) (k .ringed) (k .call-room) (k .ref-room) f
+
+  -- what fits the patch fits it at every place of it
+  pub standing-fits : (i : ℕ) (c : Held) → Fits s input c → i ≤ length (codeOf s .rows) → Fits s input (standing c i)
+  standing-fits i c h l =
+      let k = h .counted in
+      let f = h .formed in
+      let w : i ≤ length (givenTo s input c .ops) = omega (arith, rows s input (length (c .output)) .many) in
+      record { counted = search; formed = search }
+
+  -- and so with its comments passed
+  pub passed-fits : (c : Held) → Fits s input c → Fits s input (passedIn (givenTo s input c) c)
+  unfolding passedIn
+  passed-fits c h =
+      let g = givenTo s input c in
+      standing-fits _ c h (omega (arith, passed-within g (view c) (h .formed .within), rows s input (length (c .output)) .many))
 
   module _ (b : Bytes s) where
     -- and so does the next state of a step
@@ -73,8 +106,13 @@ module _ (s input : List ℕ) where
             roomy = lay-room t c (rw (h .roomy) (f .fits)) ∙ h .roomy;
           }
 
-      seen-next : (c : Held) (t : State) → Sound c → step given (view c) ≡ next t → view (lay t c) ≡ t
-      seen-next c t h e = view-lay t c (next-formed c t h e .few-sent) (h .fits .counted .ringed)
+      seen-next : (c : Held) (t : State) → Sound c → step given (view c) ≡ next t → view (passedIn given (lay t c)) ≡ passed given t
+      seen-next c t h e = seen-passed given (lay t c) ∙ ap (passed given) (view-lay t c (next-formed c t h e .few-sent) (h .fits .counted .ringed))
+
+      sound-passed : (c : Held) → Sound c → Sound (passedIn given c)
+      unfolding passedIn
+      sound-passed c h =
+          record { fits = subst (λ (r : ℕ). Fits s input (passedIn (givenOf s input r) c)) (h .roomy) (passed-fits c (h .fits)); roomy = h .roomy }
 
       -- ---- the step's first test
 
@@ -85,8 +123,8 @@ module _ (s input : List ℕ) where
       unfolding over
       over-is c = ap (λ (n : ℕ). c .numbers .halted || leb n (c .numbers .position)) (rows s input room .many)
 
-      code-over : (n k : ℕ) (c : Held) → over c ≡ true → runOf n k (codeOf s) input c ≡ ran Finished k c
-      unfolding runOf pick over
+      code-over : (n k : ℕ) (c : Held) → over c ≡ true → driveOf n k (codeOf s) input c ≡ ran Finished k c
+      unfolding driveOf pick over
       code-over zero k c e = rw e refl
       code-over (suc n) k c e = rw e refl
 
@@ -95,16 +133,17 @@ module _ (s input : List ℕ) where
       in-over zero k c o e = rw e refl
       in-over (suc n) k c o e = rw e refl
 
-      spent : (k : ℕ) (c : Held) → over c ≡ false → (o : Outcome) → Real o → runOf 0 k (codeOf s) input c ≡ driveLaid given 0 k c o
-      unfolding runOf pick driveLaid over
+      spent : (k : ℕ) (c : Held) → over c ≡ false → (o : Outcome) → Real o → driveOf 0 k (codeOf s) input c ≡ driveLaid given 0 k c o
+      unfolding driveOf pick driveLaid over
       spent k c e _ (goes t) = rw e refl
       spent k c e _ (stops n l z) = rw e refl
 
       turns : (n k : ℕ) (c : Held) → over c ≡ false
-          → ((t : State) → step given (view c) ≡ next t → runOf n (suc k) (codeOf s) input (lay t c) ≡ driveLaid given n (suc k) (lay t c) (step given (view (lay t c))))
+          → ((t : State) → step given (view c) ≡ next t
+          → driveOf n (suc k) (codeOf s) input (pastIn (codeOf s) (lay t c)) ≡ driveLaid given n (suc k) (passedIn given (lay t c)) (step given (view (passedIn given (lay t c)))))
           → (o : Outcome) → Real o → step given (view c) ≡ o → stepOf (codeOf s) input c ≡ laid c o
-          → runOf (suc n) k (codeOf s) input c ≡ driveLaid given (suc n) k c o
-      unfolding runOf pick driveLaid over
+          → driveOf (suc n) k (codeOf s) input c ≡ driveLaid given (suc n) k c o
+      unfolding driveOf pick driveLaid over
       turns n k c e less _ (goes t) q r = rw (e, r) (less t q)
       turns n k c e less _ (stops m l z) q r = rw (e, r, z) refl
 
@@ -122,7 +161,11 @@ module _ (s input : List ℕ) where
 
       -- ---- the run
 
-      drives : (n k : ℕ) (c : Held) → Sound c → runOf n k (codeOf s) input c ≡ driveLaid given n k c (step given (view c))
+      passes : (n k : ℕ) (c : Held) → driveOf n k (codeOf s) input (passedIn given c) ≡ driveLaid given n k (passedIn given c) (step given (view (passedIn given c)))
+          → driveOf n k (codeOf s) input (pastIn (codeOf s) c) ≡ driveLaid given n k (passedIn given c) (step given (view (passedIn given c)))
+      passes n k c e = ap (λ (d : Held). driveOf n k (codeOf s) input d) (past-is s input room c) ∙ e
+
+      drives : (n k : ℕ) (c : Held) → Sound c → driveOf n k (codeOf s) input c ≡ driveLaid given n k c (step given (view c))
       drives zero k c h =
           byCase (over c)
           (λ e. code-over 0 k c e ∙ sym (in-over 0 k c _ (ended c e)))
@@ -130,7 +173,7 @@ module _ (s input : List ℕ) where
       drives (suc n) k c h =
           byCase (over c)
           (λ e. code-over (suc n) k c e ∙ sym (in-over (suc n) k c _ (ended c e)))
-          (λ e. turns n k c e (λ t q. drives n (suc k) (lay t c) (sound-next c t h q)) _ (real c e) refl (stepped c h e))
+          (λ e. turns n k c e (λ t q. passes n (suc k) (lay t c) (drives n (suc k) (passedIn given (lay t c)) (sound-passed (lay t c) (sound-next c t h q)))) _ (real c e) refl (stepped c h e))
 
       shows : (n k : ℕ) (c : Held) (o : Outcome) → Sound c → step given (view c) ≡ o → seen (driveLaid given n k c o) ≡ drive given n k (view c) o
       unfolding driveLaid drive
@@ -140,18 +183,27 @@ module _ (s input : List ℕ) where
       shows (suc n) k c finished h q = refl
       shows (suc n) k c (refused m l) h q = refl
       shows (suc n) k c (next t) h q =
-          shows n (suc k) (lay t c) (step given (view (lay t c))) (sound-next c t h q) refl
+          shows n (suc k) (passedIn given (lay t c)) (step given (view (passedIn given (lay t c)))) (sound-passed (lay t c) (sound-next c t h q)) refl
           ∙ ap (λ (u : State). drive given n (suc k) u (step given u)) (seen-next c t h q)
 
-    -- the code's run is the model's run, laid after each step
-    pub run-laid : (n : ℕ) (c : Held) → Fits s input c → runOf n 0 (codeOf s) input c ≡ runLaid (givenTo s input c) n c
-    unfolding runLaid
-    run-laid n c h = drives (length (c .output)) n 0 c (record { fits = h; roomy = refl })
+    module _ (n : ℕ) (c : Held) (h : Fits s input c) where
+      abbrev room : ℕ
+      room = length (c .output)
 
-    -- and what is seen of that is the model's answer
-    pub run-seen : (n : ℕ) (c : Held) → Fits s input c → seen (runLaid (givenTo s input c) n c) ≡ run (givenTo s input c) n (view c)
-    unfolding runLaid run
-    run-seen n c h = shows (length (c .output)) n 0 c _ (record { fits = h; roomy = refl }) refl
+      sound : Sound room c
+      sound = record { fits = h; roomy = refl }
+
+      -- the code's run is the model's run, laid after each step
+      pub run-laid : runOf n 0 (codeOf s) input c ≡ runLaid (givenTo s input c) n c
+      unfolding runLaid runOf
+      run-laid = passes room n 0 c (drives room n 0 _ (sound-passed room c sound))
+
+      -- and what is seen of that is the model's answer
+      pub run-seen : seen (runLaid (givenTo s input c) n c) ≡ run (givenTo s input c) n (view c)
+      unfolding runLaid run
+      run-seen =
+          let g = givenTo s input c in
+          shows room n 0 (passedIn g c) _ (sound-passed room c sound) refl ∙ ap (λ (u : State). drive g n 0 u (step g u)) (seen-passed g c)
 
   -- ---- the fresh run
 

@@ -1,6 +1,6 @@
 -- What the contracts of the calls alone say: a refusal leaves all as found, two answers coincide, and a run is the model's. Assumes nothing.
 use mathlib.Core.Path.{_≡_, _∙_, refl, ap, sym}
-use mathlib.Core.Bool.{Bool, true, false, _&&_}
+use mathlib.Core.Bool.{Bool, true, false, cond, _&&_}
 use mathlib.Core.List.{List}
 use Prim.Native.Nat.{ℕ}
 use lib.Dec.{eqb}
@@ -11,14 +11,16 @@ use Rattle.basics.proofs.Tests.{byCase}
 use Rattle.ops.specs.Patch.{patchOf}
 use Rattle.answers.specs.Run.{numberOf}
 use Rattle.answers.specs.declared.run.Answer.{Answer}
-use Rattle.machine_model.specs.State.{State, fresh}
+use Rattle.machine_model.specs.State.{State, Given, fresh}
 use Rattle.machine_model.specs.Step.{Outcome, step}
 use Rattle.machine_model.specs.Step.Outcome.{finished, refused, next}
+use Rattle.machine_model.specs.Passed.{passed}
 use Rattle.machine_model.specs.Run.{run}
+use Rattle.machine_numbers.specs.Numbers.{atPosition}
 use Rattle.machine_step.specs.Held.{Slices, Held}
 use Rattle.bridge.specs.View.{view}
 use Rattle.bridge.specs.Decoded.{codeOf, givenOf, givenTo}
-use Rattle.bridge.specs.Run.{Ran, ran, seen}
+use Rattle.bridge.specs.Run.{Ran, ran, standing, passedIn, seen}
 use Rattle.bridge.proofs.Decoded.{Bytes}
 use Rattle.bridge.proofs.Runs.{run-seen}
 use Rattle.machine.specs.Fresh.{freshOf}
@@ -65,36 +67,47 @@ fresh-coincides s input b n r q l m e f = alike (freshCall s input b n) r q l m 
 
 -- ---- a refusal leaves all as found
 
-shown-of-same : (c : Held) (o : Outcome) → (numberOf (shownOf c o .answer) ≡ 0 → ⊥) → shownOf c o .held ≡ c
-shown-of-same c finished z = refl
-shown-of-same c (refused n l) z = refl
-shown-of-same c (next t) z = absurd (z refl)
-
-shown-same : (s input : List ℕ) (c : Held) → (numberOf (stepCall s input c .answer) ≡ 0 → ⊥) → stepCall s input c .held ≡ c
-unfolding stepCall
-shown-same s input c z =
-    let o = step (givenTo s input c) (view c) in
-    byCase (eqb (patchOf s .number) 0)
-    (λ e. byCase (isFormed (codeOf s .rows) (length input) c)
-    (λ f. rw (e, f) (shown-of-same c o (λ (q : numberOf (shownOf c o .answer) ≡ 0). z (rw (e, f) q))))
-    (λ f. rw (e, f) refl))
-    (λ e. rw e refl)
-
--- a step whose number is not 0 hands back the machine that it got, and leaves every slice as it was
-pub refused-step-same : (s input : List ℕ) (m : Machine) (l : Slices) (r : Stepped) (n : Slices) → steppedTo r n ≡ stepCall s input (lent m l) → (numberOf (r .answer) ≡ 0 → ⊥)
-    → (r .machine ≡ m) × (n ≡ l)
-unfolding machineIn slicesIn
-refused-step-same s input m l r n e z =
-    let q = shown-same s input (lent m l) (λ a. z (ap (λ (x : Shown). numberOf (x .answer)) e ∙ a)) in
-    let w : lent (r .machine) n ≡ lent m l = ap (λ (x : Shown). x .held) e ∙ q in
-    (ap machineIn w, ap slicesIn w)
-
 -- the file is good, and the state is one, or for the fresh run there is room
 abbrev pub begins : List ℕ → List ℕ → Held → Bool
 begins s input c = eqb (patchOf s .number) 0 && isFormed (codeOf s .rows) (length input) c
 
 abbrev pub beginsFresh : List ℕ → Slices → Bool
 beginsFresh s l = eqb (patchOf s .number) 0 && hasRoom (l .register) (l .table) (l .channel)
+
+-- a machine at another position
+abbrev pub machineAt : Machine → ℕ → Machine
+machineAt m i = record { calls = m .calls; refs = m .refs; numbers = atPosition (m .numbers) i }
+
+-- 02, ask 8: where a step that begins finds the machine, the comments at its position passed; one that does not begin finds it where it is
+abbrev pub foundAt : List ℕ → List ℕ → Held → ℕ
+foundAt s input c = cond (begins s input c) (passed (givenTo s input c) (view c) .at) (c .numbers .position)
+
+shown-of-same : (g : Given) (c : Held) (o : Outcome) → (numberOf (shownOf g c o .answer) ≡ 0 → ⊥) → shownOf g c o .held ≡ c
+shown-of-same g c finished z = refl
+shown-of-same g c (refused n l) z = refl
+shown-of-same g c (next t) z = absurd (z refl)
+
+shown-same : (s input : List ℕ) (c : Held) → (numberOf (stepCall s input c .answer) ≡ 0 → ⊥) → stepCall s input c .held ≡ standing c (foundAt s input c)
+unfolding stepCall passedIn
+shown-same s input c z =
+    let g = givenTo s input c in
+    let d = passedIn g c in
+    let o = step g (view d) in
+    byCase (eqb (patchOf s .number) 0)
+    (λ e. byCase (isFormed (codeOf s .rows) (length input) c)
+    (λ f. rw (e, f) (shown-of-same g d o (λ (q : numberOf (shownOf g d o .answer) ≡ 0). z (rw (e, f) q))))
+    (λ f. rw (e, f) refl))
+    (λ e. rw e refl)
+
+-- a step whose number is not 0 leaves every slice as it was, and hands back the machine that it got but for its position, which is after the comments;
+-- after a file's refusal or 37 it is the machine itself
+pub refused-step-same : (s input : List ℕ) (m : Machine) (l : Slices) (r : Stepped) (n : Slices) → steppedTo r n ≡ stepCall s input (lent m l) → (numberOf (r .answer) ≡ 0 → ⊥)
+    → (r .machine ≡ machineAt m (foundAt s input (lent m l))) × (n ≡ l)
+unfolding machineIn slicesIn
+refused-step-same s input m l r n e z =
+    let q = shown-same s input (lent m l) (λ a. z (ap (λ (x : Shown). numberOf (x .answer)) e ∙ a)) in
+    let w : lent (r .machine) n ≡ standing (lent m l) (foundAt s input (lent m l)) = ap (λ (x : Shown). x .held) e ∙ q in
+    (ap machineIn w, ap slicesIn w)
 
 -- a call that does not come to its work makes no step, and all that is held is c
 idle : (s : List ℕ) (c : Held) (test : Bool) (work : Ran) → (eqb (patchOf s .number) 0 && test) ≡ false

@@ -1,5 +1,5 @@
 -- What a run leaves fits the patch as what it began with did; and what a step takes over of a run of at most one step. Assumes nothing.
-use mathlib.Core.Path.{_≡_, _∙_, refl, ap}
+use mathlib.Core.Path.{_≡_, _∙_, refl, ap, subst}
 use mathlib.Core.List.{List}
 use Prim.Native.Nat.{ℕ, zero, suc}
 use lib.Dec.{eqb}
@@ -14,16 +14,16 @@ use Rattle.machine_step.specs.Held.{Held}
 use Rattle.bridge.specs.View.{view, lay}
 use Rattle.bridge.specs.Decoded.{givenOf, givenTo}
 use Rattle.bridge.specs.Fits.{Fits}
-use Rattle.bridge.specs.Run.{Ran, driveLaid, runLaid}
+use Rattle.bridge.specs.Run.{Ran, passedIn, driveLaid, runLaid}
 use Rattle.bridge.proofs.Over.{lay-room}
 use Rattle.bridge.proofs.Decoded.{Bytes, limited}
-use Rattle.bridge.proofs.Runs.{lay-fits}
+use Rattle.bridge.proofs.Runs.{lay-fits, passed-fits}
 use Rattle.machine.proofs.StepIsARun.{onceOf}
 
 -- ---- a run
 
--- what each step keeps of what is held, a run keeps
-module _ (g : Given) (P : Held → Type 0) (leads : (c : Held) (t : State) → P c → step g (view c) ≡ next t → P (lay t c)) where
+-- what each step and passing comments keep of what is held, a run keeps
+module _ (g : Given) (P : Held → Type 0) (passes : (c : Held) → P c → P (passedIn g c)) (leads : (c : Held) (t : State) → P c → step g (view c) ≡ next t → P (lay t c)) where
   drive-keeps : (n k : ℕ) (c : Held) (o : Outcome) → P c → step g (view c) ≡ o → P (driveLaid g n k c o .held)
   unfolding driveLaid
   drive-keeps zero k c finished h e = h
@@ -31,16 +31,20 @@ module _ (g : Given) (P : Held → Type 0) (leads : (c : Held) (t : State) → P
   drive-keeps zero k c (next t) h e = h
   drive-keeps (suc n) k c finished h e = h
   drive-keeps (suc n) k c (refused m l) h e = h
-  drive-keeps (suc n) k c (next t) h e = drive-keeps n (suc k) (lay t c) _ (leads c t h e) refl
+  drive-keeps (suc n) k c (next t) h e = drive-keeps n (suc k) (passedIn g (lay t c)) _ (passes (lay t c) (leads c t h e)) refl
 
   pub run-keeps : (n : ℕ) (c : Held) → P c → P (runLaid g n c .held)
   unfolding runLaid
-  run-keeps n c h = drive-keeps n 0 c _ h refl
+  run-keeps n c h = drive-keeps n 0 (passedIn g c) _ (passes c h) refl
 
 module _ (s input : List ℕ) (y : Bytes s) (room : ℕ) where
   -- it fits the patch, and has the room that the run was given
   abbrev Roomy : Held → Type 0
   Roomy c = Fits s input c × (length (c .output) ≡ room)
+
+  stands : (c : Held) → Roomy c → Roomy (passedIn (givenOf s input room) c)
+  unfolding passedIn
+  stands c h = (subst (λ (m : ℕ). Fits s input (passedIn (givenOf s input m) c)) (h .1) (passed-fits s input c (h .0)), h .1)
 
   step-fits : (c : Held) (t : State) → Roomy c → step (givenOf s input room) (view c) ≡ next t → Roomy (lay t c)
   unfolding givenOf
@@ -50,7 +54,9 @@ module _ (s input : List ℕ) (y : Bytes s) (room : ℕ) where
       (lay-fits s input t c (h .0) f, lay-room t c (f .fits) ∙ h .1)
 
 pub run-fits : (s input : List ℕ) → Bytes s → (n : ℕ) (c : Held) → Fits s input c → Fits s input (runLaid (givenTo s input c) n c .held)
-run-fits s input y n c h = run-keeps (givenTo s input c) (Roomy s input y (length (c .output))) (step-fits s input y (length (c .output))) n c (h, refl) .0
+run-fits s input y n c h =
+    let room = length (c .output) in
+    run-keeps (givenTo s input c) (Roomy s input y room) (stands s input y room) (step-fits s input y room) n c (h, refl) .0
 
 -- ---- a step
 

@@ -21,7 +21,7 @@ use Rattle.machine_model.proofs.Lengths.{step-whole, run-whole}
 use Rattle.machine_step.specs.Held.{Slices, Held}
 use Rattle.bridge.specs.View.{view, lay}
 use Rattle.bridge.specs.Decoded.{codeOf, givenTo}
-use Rattle.bridge.specs.Run.{Ran, ran}
+use Rattle.bridge.specs.Run.{Ran, ran, passedIn}
 use Rattle.states.specs.Formed.{hasRoom, isFormed}
 use Rattle.states.proofs.WellFormed.{limits, first-tests}
 use Rattle.machine.specs.Fresh.{freshOf}
@@ -51,10 +51,14 @@ module _ (g : Given) where
   unfolding lay
   lay-whole c t w e = step-whole g (view c) t w e
 
-  shown-whole : (c : Held) (o : Outcome) → WholeIn c → step g (view c) ≡ o → WholeIn (shownOf c o .held)
+  stands-whole : (c : Held) → WholeIn c → WholeIn (passedIn g c)
+  unfolding passedIn
+  stands-whole c w = w
+
+  shown-whole : (c : Held) (o : Outcome) → WholeIn c → step g (view c) ≡ o → WholeIn (shownOf g c o .held)
   shown-whole c finished w e = w
   shown-whole c (refused n l) w e = w
-  shown-whole c (next t) w e = lay-whole c t w e
+  shown-whole c (next t) w e = stands-whole (lay t c) (lay-whole c t w e)
 
 -- what holds of a call's refusals and of its work holds of the call
 calling-keeps : {A : Type 0} (P : A → Type 0) (s : List ℕ) (test : Bool) (refuse : Answer → A) (work : A) → ((a : Answer) → P (refuse a)) → P work
@@ -71,19 +75,19 @@ lengths-handed-back _ (by-fresh s input b l n r e) =
     subst (λ (a : Ran). WholeIn (a .held)) (sym e)
     (calling-keeps (λ (a : Ran). WholeIn (a .held)) s (hasRoom (l .register) (l .table) (l .channel)) (λ a. ran a 0 (lent freshOf l)) _
     (λ a. inl refl)
-    (run-keeps (givenTo s input (freshOn l)) WholeIn (lay-whole (givenTo s input (freshOn l))) b (freshOn l) (inl refl)))
+    (let g = givenTo s input (freshOn l) in run-keeps g WholeIn (stands-whole g) (lay-whole g) b (freshOn l) (inl refl)))
 lengths-handed-back _ (by-run m s input b l n r h e) =
     let w = lengths-handed-back m h in let c = lent m l in
     subst (λ (a : Ran). WholeIn (a .held)) (sym e)
     (calling-keeps (λ (a : Ran). WholeIn (a .held)) s (isFormed (codeOf s .rows) (length input) c) (λ a. ran a 0 c) _
     (λ a. w)
-    (run-keeps (givenTo s input c) WholeIn (lay-whole (givenTo s input c)) b c w))
+    (let g = givenTo s input c in run-keeps g WholeIn (stands-whole g) (lay-whole g) b c w))
 lengths-handed-back _ (by-step m s input l n r h e) =
     let w = lengths-handed-back m h in let c = lent m l in
     subst (λ (a : Shown). WholeIn (a .held)) (sym e)
     (calling-keeps (λ (a : Shown). WholeIn (a .held)) s (isFormed (codeOf s .rows) (length input) c) (λ a. shown a c) (stepLaid s input c)
     (λ a. w)
-    (shown-whole (givenTo s input c) c _ w refl))
+    (let g = givenTo s input c in shown-whole g (passedIn g c) _ (stands-whole g c w) refl))
 
 -- ---- a state with one of those lengths
 

@@ -14,3 +14,4 @@ pub mod Coincide
 pub mod OneTable
 pub mod Lengths
 pub mod Missing
+pub mod Annotated

@@ -2,11 +2,9 @@
 use Prim.Native.Nat.{ℕ}
 use mathlib.Core.List.{List}
 use Rattle.ops.specs.Syntax.{Op}
-use Rattle.machine_model.specs.State.{State, Given, fresh}
+use Rattle.machine_model.specs.State.{State, fresh}
+pub use Rattle.machine_model.specs.State.{given}
 use Rattle.machine_model.specs.Run.{run}
-
-abbrev pub given : List Op → List ℕ → ℕ → Given
-given os input room = record { ops = os; input = input; room = room }
 
 -- the fresh state, and what a run leaves, from a state that was reached: a budget spent and taken up again, with any input and any room
 pub data Reached (os : List Op) : State → Type 0 where

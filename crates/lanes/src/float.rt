@@ -1,5 +1,5 @@
 // A lane as a float of 64 bits, by its pattern: one function for each arm of the Rust's `step`, in the order of the arms. Every NaN pattern is
-// read as the one NaN, and a NaN that an op gives is stored as one pattern. Each of + - * / % leaves where an operand is a NaN, which no sum needs.
+// read as the one NaN, and a NaN that an op gives is stored as one pattern. Each of + - * % leaves where an operand is a NaN, which no sum needs.
 ghost use mathlib.Core.Path.{_≡_};
 ghost use mathlib.Core.Bool.{_||_};
 ghost use lib.Ieee.{binary64, nanBits};
@@ -90,13 +90,14 @@ pub fn float_mul(a: u64, b: u64) -> u64
     as_int(f64::from_bits(a) * f64::from_bits(b))
 }
 
+// Where an operand is a NaN it divides -0 by 0, which gives one: so no branch is taken, and a loop divides two lanes at a time.
 pub fn float_div(a: u64, b: u64) -> u64
     ensures { λ r. ⌜ r ≡ floatDiv a b ⌝ }
 {
-    if either_nan(a, b) {
-        return NAN;
-    }
-    as_int(f64::from_bits(a) / f64::from_bits(b))
+    let bad = either_nan(a, b);
+    let x = if bad { HALF } else { a };
+    let y = if bad { 0 } else { b };
+    as_int(f64::from_bits(x) / f64::from_bits(y))
 }
 
 // A float below the divisor in size, as every finite one is below infinity, is its own remainder, and no call is made for it.

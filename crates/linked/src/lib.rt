@@ -40,7 +40,7 @@ pub extern "C" fn feltcairn_check(bytes: &[u8], answer: &mut [u64]) -> usize
     number
 }
 
-// The fresh run: number, place, steps, the count of outputs, and the first lane that could not be had.
+// The fresh run: number, place, steps, in which no comment counts, the count of outputs, and the first lane that could not be had.
 #[no_mangle]
 pub extern "C" fn feltcairn_run_fresh(
     bytes: &[u8],

@@ -15,7 +15,7 @@ use Rattle.machine_model.specs.Step.Outcome.{finished, refused, next}
 use Rattle.machine_step.specs.Held.{Held}
 use Rattle.bridge.specs.View.{view, lay}
 use Rattle.bridge.specs.Decoded.{codeOf, givenTo}
-use Rattle.bridge.specs.Run.{Ran, driveLaid, runLaid}
+use Rattle.bridge.specs.Run.{Ran, passedIn, driveLaid, runLaid}
 use Rattle.states.specs.Formed.{isFormed}
 use Rattle.machine.specs.Calls.{Shown, shown, shownOf, stepCall, runCall}
 
@@ -30,11 +30,11 @@ module _ (g : Given) where
   spent c (refused n l) = refl
   spent c (next t) = refl
 
-  driven : (c : Held) (o : Outcome) → onceOf (driveLaid g 1 0 c o) ≡ shownOf c o
+  driven : (c : Held) (o : Outcome) → onceOf (driveLaid g 1 0 c o) ≡ shownOf g c o
   unfolding onceOf driveLaid
   driven c finished = refl
   driven c (refused n l) = refl
-  driven c (next t) = spent (lay t c) (step g (view (lay t c)))
+  driven c (next t) = spent (passedIn g (lay t c)) (step g (view (passedIn g (lay t c))))
 
 pub once-is : (s input : List ℕ) (c : Held) → onceOf (runCall s input 1 c) ≡ stepCall s input c
 unfolding stepCall runCall runLaid onceOf
@@ -42,7 +42,7 @@ once-is s input c =
     let g = givenTo s input c in
     byCase (eqb (patchOf s .number) 0)
     (λ e. byCase (isFormed (codeOf s .rows) (length input) c)
-    (λ f. rw (e, f) (driven g c (step g (view c))))
+    (λ f. rw (e, f) (driven g (passedIn g c) (step g (view (passedIn g c)))))
     (λ f. rw (e, f) refl))
     (λ e. rw e refl)
 

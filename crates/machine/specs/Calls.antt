@@ -8,12 +8,13 @@ use Rattle.basics.specs.Limits as limit
 use Rattle.ops.specs.Patch.{patchOf}
 use Rattle.answers.specs.declared.run.Answer.{Answer}
 use Rattle.answers.specs.declared.run.Answer.the-variants.{BadFile, NotAState, Went, Finished, Refused}
+use Rattle.machine_model.specs.State.{Given}
 use Rattle.machine_model.specs.Step.{Outcome, step}
 use Rattle.machine_model.specs.Step.Outcome.{finished, refused, next}
 use Rattle.machine_step.specs.Held.{Slices, slices, Held, held}
 use Rattle.bridge.specs.View.{view, lay}
 use Rattle.bridge.specs.Decoded.{codeOf, givenTo}
-use Rattle.bridge.specs.Run.{Ran, ran, runLaid}
+use Rattle.bridge.specs.Run.{Ran, ran, passedIn, runLaid}
 use Rattle.states.specs.Formed.{hasRoom, isFormed}
 use Rattle.states.specs.Zeros.{zeroed}
 use Rattle.machine.specs.Fresh.{freshOf}
@@ -40,17 +41,19 @@ pub record Shown : Type 0 where
 abbrev pub shown : Answer → Held → Shown
 shown a c = record { answer = a; held = c }
 
--- the model's outcome, laid over what the step began with: a refused step leaves all as it found it
-abbrev pub shownOf : Held → Outcome → Shown
-shownOf c finished = shown Finished c
-shownOf c (refused n l) = shown (Refused n l) c
-shownOf c (next s) = shown Went (lay s c)
+-- the model's outcome, laid over what the step found: a refused step leaves all as it found it, and the comments after a step are passed too, since
+-- it is a run of at most one
+abbrev pub shownOf : Given → Held → Outcome → Shown
+shownOf g c finished = shown Finished c
+shownOf g c (refused n l) = shown (Refused n l) c
+shownOf g c (next s) = shown Went (passedIn g (lay s c))
 
+-- 02, ask 8: what a step finds is all that is held, with the comments at the position passed
 abbrev pub stepLaid : List ℕ → List ℕ → Held → Shown
-stepLaid s input c = shownOf c (step (givenTo s input c) (view c))
+stepLaid s input c = let g = givenTo s input c in shownOf g (passedIn g c) (step g (view (passedIn g c)))
 
 unfoldable pub stepCall : List ℕ → List ℕ → Held → Shown
-unfolding step
+unfolding step passedIn
 stepCall s input c = calling s (isFormed (codeOf s .rows) (length input) c) (λ a. shown a c) (stepLaid s input c)
 
 abbrev pub steppedTo : Stepped → Slices → Shown

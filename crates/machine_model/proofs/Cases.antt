@@ -8,7 +8,7 @@ use Rattle.lanes.specs.declared.lane.LaneOp.the-variants.{Dec}
 use Rattle.ops.specs.declared.op.Mode.the-variants.{Char, Int, Other}
 use Rattle.ops.specs.Syntax.{Op}
 use Rattle.ops.specs.Syntax.Control.{function, call, ret, while, if, else, end}
-use Rattle.ops.specs.Syntax.Plain.{store, move, locate, offset, deref, refer, cell, lane, get, put, peek, poke, alloc}
+use Rattle.ops.specs.Syntax.Plain.{comment, store, move, locate, offset, deref, refer, cell, lane, get, put, peek, poke, alloc}
 use Rattle.ops.specs.Syntax.Sort.{ints}
 use Rattle.ops.specs.Syntax.Op.{control, set, load, plain}
 use Rattle.machine_model.specs.State.{fresh, withTape, lane0}
@@ -35,7 +35,7 @@ within b os l = record { tape = 0 ∷ 0 ∷ 0 ∷ 0 ∷ []; room = 4; budget = b
 upon : ℕ → List Op → List ℕ → Case
 upon v os l = record { tape = v ∷ []; room = 0; budget = 100_000; ops = os; seen = l }
 
-show : Answer → List ℕ
+unfoldable pub show : Answer → List ℕ
 show a = a .number ∷ a .steps ∷ a .place ∷ lane0 (a .state) ∷ a .state .pointer ∷ a .state .counted ∷ a .state .outs
 
 unfoldable pub tried : Case → List ℕ
@@ -141,6 +141,32 @@ budgets =
     ∷ within 0 (plain refer ∷ []) (50 ∷ 0 ∷ 0 ∷ 0 ∷ 0 ∷ 0 ∷ [])
     ∷ []
 
+-- ---- 02, ask 8: comments are passed, and are no steps
+
+note : Op
+note = plain (comment (104 ∷ 105 ∷ []))
+
+-- a comment after the Call, and one after the mark
+calling : List Op
+unfolding one out note
+calling = one 0 ∷ control call ∷ note ∷ control ret ∷ control function ∷ note ∷ one 65 ∷ out ∷ control ret ∷ control end ∷ []
+
+-- "a patch of comments finishes on budget 0"; those after the last step are passed, and 50 is given at the next op that is none; the position after
+-- them stands where that is refused; a halted machine passes none; a While, an If, a Call and a Return that go to one
+unfoldable pub notes : List Case
+unfolding within one note calling
+notes =
+    within 0 (note ∷ note ∷ []) (0 ∷ 0 ∷ 2 ∷ 0 ∷ 0 ∷ 0 ∷ [])
+    ∷ within 1 (note ∷ one 1 ∷ note ∷ []) (0 ∷ 1 ∷ 3 ∷ 1 ∷ 0 ∷ 0 ∷ [])
+    ∷ within 1 (one 1 ∷ note ∷ note ∷ one 2 ∷ []) (50 ∷ 1 ∷ 3 ∷ 1 ∷ 0 ∷ 0 ∷ [])
+    ∷ within 5 (note ∷ plain (store 5) ∷ []) (23 ∷ 0 ∷ 1 ∷ 0 ∷ 0 ∷ 0 ∷ [])
+    ∷ within 5 (control ret ∷ note ∷ []) (0 ∷ 1 ∷ 1 ∷ 0 ∷ 0 ∷ 0 ∷ [])
+    ∷ within 4 (one 2 ∷ control while ∷ note ∷ plain (lane Dec 1) ∷ note ∷ control end ∷ note ∷ []) (50 ∷ 4 ∷ 3 ∷ 1 ∷ 0 ∷ 0 ∷ [])
+    ∷ within 2 (one 0 ∷ note ∷ control if ∷ note ∷ one 7 ∷ control else ∷ note ∷ one 9 ∷ control end ∷ note ∷ []) (50 ∷ 2 ∷ 7 ∷ 0 ∷ 0 ∷ 0 ∷ [])
+    ∷ within 2 calling (50 ∷ 2 ∷ 6 ∷ 0 ∷ 0 ∷ 0 ∷ [])
+    ∷ within 5 calling (50 ∷ 5 ∷ 3 ∷ 65 ∷ 0 ∷ 0 ∷ 65 ∷ [])
+    ∷ []
+
 -- ---- every refusal of a step, with its place; earlier steps stand, and the refused one leaves nothing
 refusals : List Case
 unfolding ran upon one out minus
@@ -203,8 +229,8 @@ unfolding lane-tried lanes
 all-lanes = refl
 
 unfoldable pub cases : List Case
-unfolding loops ifs elses functions tapes talks budgets refusals
-cases = loops ++ ifs ++ elses ++ functions ++ tapes ++ talks ++ budgets ++ refusals
+unfolding loops ifs elses functions tapes talks budgets notes refusals
+cases = loops ++ ifs ++ elses ++ functions ++ tapes ++ talks ++ budgets ++ notes ++ refusals
 
 all : map tried cases ≡ map (λ c. c .seen) cases
 unfolding tried cases

@@ -33,8 +33,8 @@ use Rattle.testing_device.proofs.Inputs.Bounded.{value}
 use Rattle.testing_device.proofs.Outputs.{put-words}
 use Rattle.machine_model.specs.State.{State, Given, lanes, depth, farthest, longest, firstBlock, lane0, goTo, on, withTable}
 use Rattle.machine_model.specs.Scan.{opAt, brackets, functions, toOpen, kth}
-use Rattle.machine_model.specs.Step.{Outcome, lack, bar, enter, jump, endOf, elseOf, called, found, back, again, turn, minus, cover, beyond, ahead, cells, grown, referTo, moveBy, gotten, peekAt, act, exec, op, step}
-use Rattle.machine_model.specs.Step.Outcome.{next}
+use Rattle.machine_model.specs.Step.{Outcome, lack, bar, enter, jump, endOf, elseOf, called, found, back, again, turn, minus, cover, beyond, ahead, cells, grown, referTo, moveBy, gotten, peekAt, act, exec, op, pick, step}
+use Rattle.machine_model.specs.Step.Outcome.{finished, next}
 use Rattle.machine_model.specs.Formed.{Each, Rising, Whole, Formed}
 use Rattle.machine_model.specs.Words.{Word, Words}
 use Rattle.machine_model.specs.Missing.{AsksCells, FirstMissing, FirstCell}
@@ -138,6 +138,10 @@ got-word l at _ _ (value v p h _ _) = h
 -- "halted or at the end"
 abbrev pub Over : Given → State → Type 0
 Over g s = (s .halted || leb (length (g .ops)) (s .at)) ≡ true
+
+pub step-over : (g : Given) (s : State) → Over g s → step g s ≡ finished
+unfolding step pick
+step-over g s e = rw e refl
 
 -- 20 where no End closes the bracket, 21 where the register is too short, 22 and 23 where cells are missing, or a number after these
 pub data Refusal (g : Given) (s : State) (o : Op) : ℕ → ℕ → Type 0 where

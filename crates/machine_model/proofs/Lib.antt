@@ -2,6 +2,7 @@ pub mod Each
 pub mod Scans
 pub mod Stacks
 pub mod Table
+pub mod Passing
 pub mod Outcomes
 pub mod Effects
 pub mod Kept

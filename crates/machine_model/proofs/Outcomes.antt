@@ -7,7 +7,9 @@ use Rattle.basics.proofs.Clash.{clash}
 use Rattle.machine_model.specs.State.{State, Given}
 use Rattle.machine_model.specs.Step.{Outcome, bar, lack, pick, step}
 use Rattle.machine_model.specs.Step.Outcome.{finished, refused, next}
+use Rattle.machine_model.specs.Passed.{passed}
 use Rattle.machine_model.specs.Run.{drive, run}
+use Rattle.machine_model.proofs.Passing.{passed-keeps}
 
 -- E where it is finished, N of its number and lane, P of its next state
 pub data Gives (E : Type 0) (N : ℕ → ℕ → Type 0) (P : State → Type 0) : Outcome → Type 0 where
@@ -50,8 +52,8 @@ module _ (N : ℕ → Type 0) (P : State → Type 0) (over : N 0) (spent : N 50)
   drive-keeps zero k s (next t) p e = (spent, p)
   drive-keeps (suc b) k s finished p e = (over, p)
   drive-keeps (suc b) k s (refused n l) p e = (stops s n l p e, p)
-  drive-keeps (suc b) k s (next t) p e = drive-keeps b (suc k) t (step g t) (leads s t p e) refl
+  drive-keeps (suc b) k s (next t) p e = drive-keeps b (suc k) (passed g t) (step g (passed g t)) (passed-keeps P g leads t (leads s t p e)) refl
 
   pub run-keeps : (b : ℕ) (s : State) → P s → N (run g b s .number) × P (run g b s .state)
   unfolding run
-  run-keeps b s p = drive-keeps b 0 s (step g s) p refl
+  run-keeps b s p = drive-keeps b 0 (passed g s) (step g (passed g s)) (passed-keeps P g leads s p) refl

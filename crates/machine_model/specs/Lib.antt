@@ -2,6 +2,7 @@
 pub mod State
 pub mod Scan
 pub mod Step
+pub mod Passed
 pub mod Run
 pub mod Missing
 pub mod Formed

@@ -13,6 +13,9 @@ pub record Given : Type 0 where
   pub input : List ℕ
   pub room : ℕ
 
+abbrev pub given : List Op → List ℕ → ℕ → Given
+given os input room = record { ops = os; input = input; room = room }
+
 -- position, pointer and counted length; register, lent tape and function table; the saved calls, the saved pointers and the channel, the
 -- newest last; the input place, the outputs, and whether it has halted
 pub record State : Type 0 where

@@ -1,12 +1,13 @@
 -- The turns of a run's loop, and what a step that goes on leaves to the next. Assumes nothing.
 use mathlib.Core.Path.{_≡_, _∙_, refl, ap, sym, subst}
-use mathlib.Core.Bool.{Bool, true, false, _||_}
-use mathlib.Core.List.{List}
-use Prim.Native.Nat.{ℕ, zero, suc, _+_, _-_, _≤_, _<_}
+use mathlib.Core.Bool.{Bool, true, false, cond, _||_}
+use mathlib.Core.List.{List, [], _∷_, map}
+use Prim.Native.Nat.{ℕ, zero, suc, _+_, _-_, _*_, _≤_, _<_}
+use native.Mathlib.Nat.{not-suc-le-zero, le-of-suc-le-suc, suc-mul}
 use native.Mathlib.Omega.{arith}
 use native.Mathlib.Numerals.{add-one}
 use lib.Dec.{leb, eqb}
-use lib.ListN.{length, getD}
+use lib.ListN.{length, getD, length-map}
 use mir.Val
 use mir.Syntax.{w8}
 use borrow.Author.Tests.{leb-false, le-leb, lt-leb, eq-eqb, ne-eqb, eqb-true, eqb-false}
@@ -19,6 +20,7 @@ use Rattle.ops.specs.Patch.{patchOf}
 use Rattle.file_laws.proofs.Items.{few-items}
 use Rattle.machine_model.specs.Step.{Outcome, step}
 use Rattle.machine_model.specs.Step.Outcome.{next}
+use Rattle.machine_model.proofs.Passing.{past-on, past-here, bits-beyond}
 use Rattle.partners.specs.Columns.{Stored}
 use Rattle.machine_numbers.specs.declared.numbers.Numbers.{Numbers}
 use Rattle.machine_numbers.specs.Numbers.{OpAnswer, answered, halt, halting, refusedBy, gathered, running, stepped}
@@ -29,37 +31,99 @@ use Rattle.bridge.specs.Decoded.{codeOf, givenTo}
 use Rattle.machine_step.specs.Payloads.{PayloadsInBytes}
 use Rattle.machine_step.specs.CanStep.{CanStep}
 use Rattle.bridge.specs.Fits.{Fits}
-use Rattle.bridge.specs.Run.{Ran, ran, runOf}
+use Rattle.bridge.specs.Run.{Ran, ran, standing, rowComment, pastOf, pastIn, driveOf, runOf}
 use Rattle.bridge.proofs.Decoded.{Bytes, rows, many-rows, payloads-in-bytes, places-stored}
 use Rattle.bridge.proofs.Steps.{step-is}
 use Rattle.bridge.proofs.Real.{Real, step-real}
 use Rattle.bridge.proofs.Real.Real.{goes, stops}
-use Rattle.bridge.proofs.Runs.{step-fits}
+use Rattle.bridge.proofs.Runs.{step-fits, standing-fits}
 use Rattle.machine_run.specs.Ready.{ReadyToRun, overOf, endedBy, madeBy}
+
+over-halted : (p : Numbers) (n : ℕ) → p .halted ≡ true → overOf p n ≡ true
+unfolding overOf
+over-halted p n e = rw e refl
+
+module _ (p : Numbers) (n : ℕ) (e : p .halted ≡ false) where
+  over-past : n ≤ p .position → overOf p n ≡ true
+  unfolding overOf
+  over-past h = rw (e, le-leb n (p .position) h) refl
+
+  pub over-before : p .position < n → overOf p n ≡ false
+  unfolding overOf
+  over-before h = rw (e, lt-leb n (p .position) h) refl
+
+-- ---- the comments at a position
+
+row-in : (ks : List ℕ) (i : ℕ) → i < length ks → getD (map rowComment ks) i false ≡ rowComment (getD ks i 0)
+row-in [] i h = absurd (not-suc-le-zero h)
+row-in (k ∷ ks) zero h = refl
+row-in (k ∷ ks) (suc i) h = row-in ks i (le-of-suc-le-suc h)
+
+module _ (ks : List ℕ) (i : ℕ) where
+  past-end : length ks ≤ i → pastOf ks i ≡ i
+  unfolding pastOf
+  past-end h = past-here i i (map rowComment ks) (bits-beyond (map rowComment ks) i (omega (arith, length-map ks rowComment)))
+
+  past-op : i < length ks → (getD ks i 0 ≡ 0 → ⊥) → pastOf ks i ≡ i
+  unfolding pastOf rowComment
+  past-op h n = past-here i i (map rowComment ks) (row-in ks i h ∙ ne-eqb (getD ks i 0) 0 n)
+
+  past-comment : i < length ks → getD ks i 0 ≡ 0 → pastOf ks (i + 1) ≡ pastOf ks i
+  unfolding pastOf rowComment
+  past-comment h e = rw (add-one i) (sym (past-on i i (map rowComment ks) (row-in ks i h ∙ eq-eqb (getD ks i 0) 0 e)))
+
+-- a halted machine passes none
+past-halted : (x : Code) (c : Held) → c .numbers .halted ≡ true → pastIn x c ≡ c
+unfolding pastIn
+past-halted x c e = ap (λ (h : Bool). standing c (cond h (c .numbers .position) (pastOf (x .rows) (c .numbers .position)))) e
+
+past-running : (x : Code) (c : Held) → c .numbers .halted ≡ false → pastIn x c ≡ standing c (pastOf (x .rows) (c .numbers .position))
+unfolding pastIn
+past-running x c e = ap (λ (h : Bool). standing c (cond h (c .numbers .position) (pastOf (x .rows) (c .numbers .position)))) e
+
+module _ (x : Code) (c : Held) (e : c .numbers .halted ≡ false) where
+  -- there is none at the end, and none at an op of another row
+  none-at-end : length (x .rows) ≤ c .numbers .position → pastIn x c ≡ c
+  none-at-end h = past-running x c e ∙ ap (λ (i : ℕ). standing c i) (past-end (x .rows) (c .numbers .position) h)
+
+  none-at-op : c .numbers .position < length (x .rows) → (getD (x .rows) (c .numbers .position) 0 ≡ 0 → ⊥) → pastIn x c ≡ c
+  none-at-op h n = past-running x c e ∙ ap (λ (i : ℕ). standing c i) (past-op (x .rows) (c .numbers .position) h n)
+
+  -- one, and then those after it
+  one-first : c .numbers .position < length (x .rows) → getD (x .rows) (c .numbers .position) 0 ≡ 0 → pastIn x (standing c (c .numbers .position + 1)) ≡ pastIn x c
+  one-first h z =
+      past-running x (standing c (c .numbers .position + 1)) e
+      ∙ ap (λ (i : ℕ). standing c i) (past-comment (x .rows) (c .numbers .position) h z)
+      ∙ sym (past-running x c e)
 
 -- ---- the four ways through a turn
 
 module _ (x : Code) (input : List ℕ) (c : Held) where
-  pub run-done : (b k : ℕ) → overOf (c .numbers) (length (x .rows)) ≡ true → runOf b k x input c ≡ ran Finished k c
-  unfolding runOf pick overOf
-  run-done zero k e = rw e refl
-  run-done (suc b) k e = rw e refl
+  drive-done : (b k : ℕ) → overOf (c .numbers) (length (x .rows)) ≡ true → driveOf b k x input c ≡ ran Finished k c
+  unfolding driveOf pick overOf
+  drive-done zero k e = rw e refl
+  drive-done (suc b) k e = rw e refl
+
+  -- a halted machine is finished where it stands
+  pub run-halted : (b k : ℕ) → c .numbers .halted ≡ true → runOf b k x input c ≡ ran Finished k c
+  unfolding runOf
+  run-halted b k e = ap (λ (d : Held). driveOf b k x input d) (past-halted x c e) ∙ drive-done b k (over-halted (c .numbers) _ e)
 
   module _ (e : overOf (c .numbers) (length (x .rows)) ≡ false) where
-    pub run-spent : (b k : ℕ) → b ≡ 0 → runOf b k x input c ≡ ran Spent k c
-    unfolding runOf pick overOf
-    run-spent b k z = rw (z, e) refl
+    drive-spent : (b k : ℕ) → b ≡ 0 → driveOf b k x input c ≡ ran Spent k c
+    unfolding driveOf pick overOf
+    drive-spent b k z = rw (z, e) refl
 
     module _ (o : After) (q : o ≡ stepOf x input c) where
-      pub run-on : (b k : ℕ) → (b ≡ 0 → ⊥) → o .number ≡ 0 → runOf (b - 1) (k + 1) x input (o .held) ≡ runOf b k x input c
-      unfolding runOf pick overOf
-      run-on zero k z a = absurd (z refl)
-      run-on (suc b) k z a = let d : suc b - 1 ≡ b = omega arith in rw (e, ← q, eq-eqb (o .number) 0 a, add-one k, d) refl
+      drive-on : (b k : ℕ) → (b ≡ 0 → ⊥) → o .number ≡ 0 → runOf (b - 1) (k + 1) x input (o .held) ≡ driveOf b k x input c
+      unfolding runOf driveOf pick overOf
+      drive-on zero k z a = absurd (z refl)
+      drive-on (suc b) k z a = let d : suc b - 1 ≡ b = omega arith in rw (e, ← q, eq-eqb (o .number) 0 a, add-one k, d) refl
 
-      pub run-refused : (b k : ℕ) → (b ≡ 0 → ⊥) → (o .number ≡ 0 → ⊥) → runOf b k x input c ≡ ran (Refused (o .number) (o .lane)) k (o .held)
-      unfolding runOf pick overOf
-      run-refused zero k z a = absurd (z refl)
-      run-refused (suc b) k z a = rw (e, ← q, ne-eqb (o .number) 0 a) refl
+      drive-refused : (b k : ℕ) → (b ≡ 0 → ⊥) → (o .number ≡ 0 → ⊥) → driveOf b k x input c ≡ ran (Refused (o .number) (o .lane)) k (o .held)
+      unfolding driveOf pick overOf
+      drive-refused zero k z a = absurd (z refl)
+      drive-refused (suc b) k z a = rw (e, ← q, ne-eqb (o .number) 0 a) refl
 
 -- ---- a step of what is good and well formed
 
@@ -139,9 +203,9 @@ module _ (s input : List ℕ) (x : Code) (c : Held) (h : ReadyToRun s input x c)
 
 -- ---- the loop of `go`
 
--- after some steps, with so many left: what is held is good and well formed, in slices as long as they were, and the run from here is the run from
--- the start
-pub record Running (s input : List ℕ) (x : Code) (budget : ℕ) (from c : Held) (left : ℕ) : Type 0 where
+-- after some steps, with so many left: what is held is good and well formed, in slices as long as they were, and what the run goes on to from here
+-- is what it comes to from the start
+pub record Going (rest : Held → Ran) (s input : List ℕ) (x : Code) (budget : ℕ) (from c : Held) (left : ℕ) : Type 0 where
   pub ready : ReadyToRun s input x c
   pub register : length (c .register) ≡ length (from .register)
   pub tape : length (c .tape) ≡ length (from .tape)
@@ -149,7 +213,14 @@ pub record Running (s input : List ℕ) (x : Code) (budget : ℕ) (from c : Held
   pub channel : length (c .channel) ≡ length (from .channel)
   pub output : length (c .output) ≡ length (from .output)
   pub within : left ≤ budget
-  pub same : runOf left (budget - left) x input c ≡ runOf budget 0 x input from
+  pub same : rest c ≡ runOf budget 0 x input from
+
+-- before the comments at its position are passed, and then
+abbrev pub Running : List ℕ → List ℕ → Code → ℕ → Held → Held → ℕ → Type 0
+Running s input x budget from c left = Going (runOf left (budget - left) x input) s input x budget from c left
+
+abbrev pub Driving : List ℕ → List ℕ → Code → ℕ → Held → Held → ℕ → Type 0
+Driving s input x budget from c left = Going (driveOf left (budget - left) x input) s input x budget from c left
 
 -- at first
 pub begin : {s input : List ℕ} {x : Code} {c : Held} (budget : ℕ) → ReadyToRun s input x c → Running s input x budget c c budget
@@ -157,38 +228,83 @@ begin budget h =
     let z : budget - budget ≡ 0 = omega arith in
     record { ready = h; register = refl; tape = refl; table = refl; channel = refl; output = refl; within = omega arith; same = rw z refl }
 
-module _ {s input : List ℕ} {x : Code} {budget : ℕ} {from c : Held} {left : ℕ} (i : Running s input x budget from c left) where
+-- a comment is passed, and no step is counted
+module _ {s input : List ℕ} {x : Code} {budget : ℕ} {from c : Held} {left : ℕ} (i : Running s input x budget from c left) (run : c .numbers .halted ≡ false) where
+  pub passing : c .numbers .position < length (x .rows) → getD (x .rows) (c .numbers .position) 0 ≡ 0
+      → Running s input x budget from (standing c (c .numbers .position + 1)) left
+  unfolding runOf
+  passing h z =
+      let within : c .numbers .position + 1 ≤ length (codeOf s .rows) = omega (arith, ap (λ (y : Code). length (y .rows)) (i .ready .read)) in
+      record {
+        ready = record { good = i .ready .good; read = i .ready .read; fits = standing-fits s input _ c (i .ready .fits) within };
+        register = i .register;
+        tape = i .tape;
+        table = i .table;
+        channel = i .channel;
+        output = i .output;
+        within = i .within;
+        same = ap (λ (d : Held). driveOf left (budget - left) x input d) (one-first x c run h z) ∙ i .same;
+      }
+
+  -- and where there is none the tests of the step come
+  settled : pastIn x c ≡ c → Driving s input x budget from c left
+  unfolding runOf
+  settled e =
+      record {
+        ready = i .ready;
+        register = i .register;
+        tape = i .tape;
+        table = i .table;
+        channel = i .channel;
+        output = i .output;
+        within = i .within;
+        same = ap (λ (d : Held). driveOf left (budget - left) x input d) (sym e) ∙ i .same;
+      }
+
+  pub at-end : length (x .rows) ≤ c .numbers .position → ran Finished (budget - left) c ≡ runOf budget 0 x input from
+  at-end h = sym (drive-done x input c _ _ (over-past (c .numbers) _ run h)) ∙ settled (none-at-end x c run h) .same
+
+  pub at-op : c .numbers .position < length (x .rows) → (getD (x .rows) (c .numbers .position) 0 ≡ 0 → ⊥) → Driving s input x budget from c left
+  at-op h z = settled (none-at-op x c run h z)
+
+module _ {s input : List ℕ} {x : Code} {budget : ℕ} {from c : Held} {left : ℕ} (i : Driving s input x budget from c left) (e : overOf (c .numbers) (length (x .rows)) ≡ false) where
   -- the ways out
-  pub ended : overOf (c .numbers) (length (x .rows)) ≡ true → ran Finished (budget - left) c ≡ runOf budget 0 x input from
-  ended e = sym (run-done x input c _ _ e) ∙ i .same
+  pub all-spent : left ≡ 0 → ran Spent (budget - left) c ≡ runOf budget 0 x input from
+  all-spent z = sym (drive-spent x input c e left (budget - left) z) ∙ i .same
 
-  module _ (e : overOf (c .numbers) (length (x .rows)) ≡ false) where
-    pub all-spent : left ≡ 0 → ran Spent (budget - left) c ≡ runOf budget 0 x input from
-    all-spent z = sym (run-spent x input c e left (budget - left) z) ∙ i .same
+  module _ (z : left ≡ 0 → ⊥) (o : After) (q : o ≡ stepOf x input c) where
+    refused-at : (o .number ≡ 0 → ⊥) → ran (Refused (o .number) (o .lane)) (budget - left) (o .held) ≡ runOf budget 0 x input from
+    refused-at a = sym (drive-refused x input c e o q left (budget - left) z a) ∙ i .same
 
-    module _ (z : left ≡ 0 → ⊥) (o : After) (q : o ≡ stepOf x input c) where
-      refused-at : (o .number ≡ 0 → ⊥) → ran (Refused (o .number) (o .lane)) (budget - left) (o .held) ≡ runOf budget 0 x input from
-      refused-at a = sym (run-refused x input c e o q left (budget - left) z a) ∙ i .same
+    halted-at : o .number ≡ 0 → o .held .numbers .halted ≡ true → ran Finished (budget - left + 1) (o .held) ≡ runOf budget 0 x input from
+    halted-at a h = sym (run-halted x input (o .held) (left - 1) (budget - left + 1) h) ∙ drive-on x input c e o q left (budget - left) z a ∙ i .same
 
-      halted-at : o .number ≡ 0 → overOf (o .held .numbers) (length (x .rows)) ≡ true → ran Finished (budget - left + 1) (o .held) ≡ runOf budget 0 x input from
-      halted-at a h = sym (run-done x input (o .held) (left - 1) (budget - left + 1) h) ∙ run-on x input c e o q left (budget - left) z a ∙ i .same
+    -- and on
+    module _ (b : Bytes s) (a : o .number ≡ 0) where
+      pub onward : length (o .held .register) ≡ length (c .register) → length (o .held .tape) ≡ length (c .tape) → length (o .held .table) ≡ length (c .table)
+          → length (o .held .channel) ≡ length (c .channel) → length (o .held .output) ≡ length (c .output) → Running s input x budget from (o .held) (left - 1)
+      onward g t ts ch w =
+          let k : budget - (left - 1) ≡ budget - left + 1 = omega (arith, i .within, z) in
+          record {
+            ready = going-on s input x c (i .ready) e o q b a;
+            register = g ∙ i .register;
+            tape = t ∙ i .tape;
+            table = ts ∙ i .table;
+            channel = ch ∙ i .channel;
+            output = w ∙ i .output;
+            within = omega (arith, i .within);
+            same = rw k (drive-on x input c e o q left (budget - left) z a ∙ i .same);
+          }
 
-      -- and on
-      module _ (b : Bytes s) (a : o .number ≡ 0) where
-        pub onward : length (o .held .register) ≡ length (c .register) → length (o .held .tape) ≡ length (c .tape) → length (o .held .table) ≡ length (c .table)
-            → length (o .held .channel) ≡ length (c .channel) → length (o .held .output) ≡ length (c .output) → Running s input x budget from (o .held) (left - 1)
-        onward g t ts ch w =
-            let k : budget - (left - 1) ≡ budget - left + 1 = omega (arith, i .within, z) in
-            record {
-              ready = going-on s input x c (i .ready) e o q b a;
-              register = g ∙ i .register;
-              tape = t ∙ i .tape;
-              table = ts ∙ i .table;
-              channel = ch ∙ i .channel;
-              output = w ∙ i .output;
-              within = omega (arith, i .within);
-              same = rw k (run-on x input c e o q left (budget - left) z a ∙ i .same);
-            }
+-- the measure: a comment passed leaves fewer ops ahead, and a step made fewer steps
+abbrev pub ahead : ℕ → ℕ → ℕ → ℕ
+ahead n left i = left * (n + 1) + (n - i)
+
+pub fewer : (n left i j : ℕ) → (left ≡ 0 → ⊥) → ahead n (left - 1) j < ahead n left i
+fewer n zero i j z = absurd (z refl)
+fewer n (suc b) i j z =
+    let d : suc b - 1 ≡ b = omega arith in
+    rw d (omega (arith, suc-mul b (n + 1)))
 
 -- ---- what a step answers
 
@@ -208,12 +324,8 @@ module _ (a : ℕ) (p : Numbers) where
   unfolding stepped pick
   refused n = rw (ne-eqb a 2 n) refl
 
-pub over-halted : (p : Numbers) (n : ℕ) → p .halted ≡ true → overOf p n ≡ true
-unfolding overOf
-over-halted p n e = rw e refl
-
 -- a step that answers a, which is not `done`, is the last
-pub stopped-at : {s input : List ℕ} {x : Code} {budget : ℕ} {from c : Held} {left : ℕ} → Running s input x budget from c left → overOf (c .numbers) (length (x .rows)) ≡ false
+pub stopped-at : {s input : List ℕ} {x : Code} {budget : ℕ} {from c : Held} {left : ℕ} → Driving s input x budget from c left → overOf (c .numbers) (length (x .rows)) ≡ false
     → (left ≡ 0 → ⊥) → {a d v p q l n f i w t o : ℕ} {cs rs g ta ts ch out : List ℕ}
     → after (stepped a (running d v p q l n f i w t o)) cs rs g ta ts ch out ≡ stepOf x input c → (a ≡ 0 → ⊥)
     → {r : Answer} {k : ℕ} {m : Numbers} → r ≡ endedBy a → k ≡ madeBy a → m ≡ gathered d v p q l n f i w t o (eqb a halting)
@@ -222,7 +334,7 @@ unfolding endedBy madeBy pick
 stopped-at {s} {input} {x} {budget} {c = c} {left = left} run e z {a} {d} {v} {p} {q} {l} {n} {f} {i} {w} {t} {o} b h er ek em =
     let m = running d v p q l n f i w t o in
     byCase (eqb a 2)
-    (λ y. rw (er, ek, em, y) (halted-at run e z _ (as-answered (halted a m (eqb-true a 2 y)) b) refl (over-halted (halt m) _ refl)))
+    (λ y. rw (er, ek, em, y) (halted-at run e z _ (as-answered (halted a m (eqb-true a 2 y)) b) refl refl))
     (λ y. let b = as-answered (refused a m (eqb-false a 2 y)) b in
     let u : budget - left + 0 ≡ budget - left = omega arith in
     rw (er, ek, em, y, u) (refused-at run e z _ b (λ r. h (let j = went-whole s input x c (run .ready) e _ b r in omega (arith, r, j)))))
@@ -252,12 +364,3 @@ open-at-first {s} {input} {x} {c} budget h e = begin budget (subst (λ (d : Held
 pub from-first : (x : Code) (input : List ℕ) (budget : ℕ) (c : Held) (r : Ran) → c .numbers .halted ≡ false
     → r ≡ runOf budget 0 x input (opened c) → r ≡ runOf budget 0 x input c
 from-first x input budget c r e w = w ∙ ap (λ (d : Held). runOf budget 0 x input d) (sym (same-opened c e))
-
-module _ (p : Numbers) (n : ℕ) (e : p .halted ≡ false) where
-  pub over-past : n ≤ p .position → overOf p n ≡ true
-  unfolding overOf
-  over-past h = rw (e, le-leb n (p .position) h) refl
-
-  pub over-before : p .position < n → overOf p n ≡ false
-  unfolding overOf
-  over-before h = rw (e, lt-leb n (p .position) h) refl

@@ -4,6 +4,7 @@ ghost use Rattle.machine_step.specs.Held.{held, code};
 ghost use Rattle.bridge.specs.Run.{ran, runOf};
 ghost use Rattle.machine_run.specs.Ready.{ReadyToRun, endedBy, madeBy};
 use answers::run::Answer;
+use kind_table::row;
 use machine_numbers::numbers::DONE;
 use machine_numbers::numbers::HALTED;
 use machine_numbers::numbers::NUMBERS;
@@ -36,7 +37,7 @@ fn halting(a: u32) -> u32
     0
 }
 
-// Steps until the machine is finished, the budget is spent or a step is refused.
+// Steps until the machine is finished, the budget is spent or a step is refused. A comment is passed, also when the budget is spent, and is no step.
 pub fn go(
     numbers: Numbers,
     rows: &[u8],
@@ -100,76 +101,80 @@ pub fn go(
                 ),
             };
         }
-        if left == 0 {
-            return Ended {
-                answer: Answer::Spent,
-                steps: budget - left,
-                numbers: Numbers::gather(
-                    depth,
-                    saved,
-                    pointer,
-                    position,
-                    counted,
-                    lanes,
-                    functions,
-                    first,
-                    waiting,
-                    taken,
-                    written,
-                    false,
-                ),
-            };
+        if rows[position] == row::COMMENT {
+            position += 1;
+        } else {
+            if left == 0 {
+                return Ended {
+                    answer: Answer::Spent,
+                    steps: budget - left,
+                    numbers: Numbers::gather(
+                        depth,
+                        saved,
+                        pointer,
+                        position,
+                        counted,
+                        lanes,
+                        functions,
+                        first,
+                        waiting,
+                        taken,
+                        written,
+                        false,
+                    ),
+                };
+            }
+            let a = machine_step::step::step(
+                &mut position,
+                &mut pointer,
+                &mut counted,
+                &mut lanes,
+                &mut depth,
+                &mut saved,
+                &mut functions,
+                &mut first,
+                &mut waiting,
+                &mut taken,
+                &mut written,
+                rows,
+                counts,
+                needs,
+                payloads,
+                partners,
+                turns,
+                marks,
+                bytes,
+                calls,
+                refs,
+                register,
+                tape,
+                table,
+                channel,
+                input,
+                output,
+            );
+            if a != DONE {
+                let made = budget - left;
+                return Ended {
+                    answer: answer_of(a),
+                    steps: made + halting(a),
+                    numbers: Numbers::gather(
+                        depth,
+                        saved,
+                        pointer,
+                        position,
+                        counted,
+                        lanes,
+                        functions,
+                        first,
+                        waiting,
+                        taken,
+                        written,
+                        a == HALTED,
+                    ),
+                };
+            }
+            left -= 1;
         }
-        let a = machine_step::step::step(
-            &mut position,
-            &mut pointer,
-            &mut counted,
-            &mut lanes,
-            &mut depth,
-            &mut saved,
-            &mut functions,
-            &mut first,
-            &mut waiting,
-            &mut taken,
-            &mut written,
-            rows,
-            counts,
-            needs,
-            payloads,
-            partners,
-            turns,
-            marks,
-            bytes,
-            calls,
-            refs,
-            register,
-            tape,
-            table,
-            channel,
-            input,
-            output,
-        );
-        if a != DONE {
-            let made = budget - left;
-            return Ended {
-                answer: answer_of(a),
-                steps: made + halting(a),
-                numbers: Numbers::gather(
-                    depth,
-                    saved,
-                    pointer,
-                    position,
-                    counted,
-                    lanes,
-                    functions,
-                    first,
-                    waiting,
-                    taken,
-                    written,
-                    a == HALTED,
-                ),
-            };
-        }
-        left -= 1;
     }
 }

@@ -210,14 +210,12 @@ pub fn alloc(counted: &mut usize, register: &mut [u64]) -> u32
 {
     let l = *counted;
     let v = register[0];
-    if SIGN <= v {
-        return 30;
-    }
     let g = stock(l);
-    let to = g + (v as usize);
-    if Numbers::LENGTH < to {
+    // a negative lane is above every length too
+    if ((Numbers::LENGTH - g) as u64) < v {
         return 30;
     }
+    let to = g + (v as usize);
     register[0] = (g - 1) as u64;
     *counted = to;
     DONE
