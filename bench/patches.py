@@ -198,12 +198,15 @@ def runs():
 TWINS = "tight loop", "nested brackets", "calls and returns", "moves, loads, stores", "integer lanes, 1", "char output", "level of a block"
 
 
+COMMENTED = ", commented"
+
+
 def twins():
     """Some of them, each beside the same patch with a comment before each op."""
     for name, ops, inputs, room in runs():
         if name in TWINS:
             yield name, ops, inputs, room
-            yield name + ", commented", [o for each in ops for o in (op(COMMENT, b"pitch up"), each)], inputs, room
+            yield name + COMMENTED, [o for each in ops for o in (op(COMMENT, b"pitch up"), each)], inputs, room
 
 
 NAMES = {ADD: "add", SUB: "sub", MUL: "mul", DIV: "div", REM: "rem", NAND: "nand", BAND: "bit and", BOR: "bit or", BXOR: "xor", BNOT: "bit not",
