@@ -1,4 +1,4 @@
-"""The benchmark's patches: (name, patch file, inputs, cells, room for outputs), by the writers of compare/."""
+"""The benchmark's patches: (name, patch file, inputs, room for outputs), by the writers of compare/. One whose name ends so is run by mark."""
 import os
 import random
 import struct
@@ -43,18 +43,25 @@ def brackets():
     return loop(80, body) + [op(LOAD, 1), op(PUT, 0)]
 
 
+def routines(n, calling):
+    """n functions that count up; those from `calling` on call one of the first ones too."""
+    out = []
+    for k in range(n):
+        body = [op(MOVE, 1), op(LOAD, 1), op(INC, 1), op(STORE, 1), op(MOVE, -1)]
+        if k >= calling:
+            body += [op(SET, k - calling), op(CALL)]
+        out += [op(FUNCTION)] + body + [op(RETURN), op(END)]
+    return out
+
+
+def called(*ks):
+    """A call of each."""
+    return [o for k in ks for o in (op(SET, k), op(CALL))]
+
+
 def calls():
     """Sixteen functions; the last ones call the first ones."""
-    out = []
-    for k in range(16):
-        body = [op(MOVE, 1), op(LOAD, 1), op(INC, 1), op(STORE, 1), op(MOVE, -1)]
-        if k >= 8:
-            body += [op(SET, k - 8), op(CALL)]
-        out += [op(FUNCTION)] + body + [op(RETURN), op(END)]
-    body = []
-    for k in (0, 15, 3, 9, 12):
-        body += [op(SET, k), op(CALL)]
-    return out + loop(8_000, body) + shown(1, 1)
+    return routines(16, 8) + loop(8_000, called(0, 15, 3, 9, 12)) + shown(1, 1)
 
 
 def nest(n):
@@ -209,6 +216,21 @@ def twins():
             yield name + COMMENTED, [o for each in ops for o in (op(COMMENT, b"pitch up"), each)], inputs, room
 
 
+BY_MARK = ", by mark"
+
+
+def below():
+    """Sixteen routines after the patch's own ops: the five that it calls are entered by these calls, from the first on, and the others never."""
+    return loop(8_000, called(0, 1, 2, 3, 4)) + shown(1, 1) + [op(RETURN)] + routines(16, 16)
+
+
+def modes():
+    """Patches that call routines, each in both call modes; their calls mean the same in both."""
+    for name, ops in ("calls and returns", calls()), ("routines below", below()):
+        yield name, ops, [], 1
+        yield name + BY_MARK, ops, [], 1
+
+
 NAMES = {ADD: "add", SUB: "sub", MUL: "mul", DIV: "div", REM: "rem", NAND: "nand", BAND: "bit and", BOR: "bit or", BXOR: "xor", BNOT: "bit not",
          LSH: "lsh", LRSH: "lrsh", ARSH: "arsh", AND: "and", OR: "or", NOT: "not", NEG: "neg", INC: "inc", DEC: "dec", GEZ: "gez", INDEX: "index"}
 FLOAT_NAMES = {ADDF: "float add", SUBF: "float sub", MULF: "float mul", DIVF: "float div", REMF: "float rem", NEGF: "float neg",
@@ -247,7 +269,8 @@ def elses(n):
 
 def write(cases, out):
     for name, ops, inputs, room in cases:
+        mode = name.endswith(BY_MARK)
         patch = b"".join(ops)
         text = name.encode()
         out.write(struct.pack("<I", len(text)) + text + struct.pack("<I", len(patch)) + patch)
-        out.write(struct.pack("<3I", CELLS, room, len(inputs)) + struct.pack("<%dQ" % len(inputs), *inputs))
+        out.write(struct.pack("<4I", CELLS, room, mode, len(inputs)) + struct.pack("<%dQ" % len(inputs), *inputs))

@@ -5,7 +5,8 @@
     expect.py smallest   the smallest inputs (generate.py smallest): each row must be met as the document says
 
 A case is settled where the Rust agrees to the last step, or where it agrees up to a refusal and does there what the document says.
-What is not settled is a disagreement: a wrong reading, or a difference that is still to be listed.
+What is not settled is a disagreement: a wrong reading, or a difference that is still to be listed. A run by mark to whose end the Rust
+was brought by taking its table away is settled, but is not counted among those where it agrees.
 """
 import atexit
 import os
@@ -26,6 +27,10 @@ PORT = "answers of the port alone (file, 37, 40, check)"
 ROOM = "beyond the judge's room"
 NAMED = "lanes that the Rust's panic names (21, 22)"
 UNNAMED = "lanes of the port alone (21, 22, 23)"
+AIDED = "agree by mark, with the Rust's table taken away"
+# how a run by mark was put to the Rust, in the judge's numbers
+AS_IT_IS, TAKEN = 1, 2
+BY_MARK = {AS_IT_IS: "by mark, the Rust as it is", TAKEN: "by mark, the Rust's table taken away at a Call"}
 OUTSIDE = {"agree": AGREE, "port": PORT, "utf8": "comment bytes", "dirty": "lent cells not zero", "big": ROOM}
 AT_THE_OP = {
     (20, "hang"): "endless search", (21, "panic"): "missing lane", (22, "panic"): "cell beyond the length", (23, "went"): "lent tape",
@@ -66,11 +71,12 @@ def build():
 
 
 def judged(judge, data, *flags, timeout=None):
-    """The judge's verdict on each case: sort, number, verdict, kind, NaNs, whether the Rust's panic names the lane, and its steps over comments."""
+    """The judge's verdict on each case: sort, number, verdict, kind, NaNs, whether the Rust's panic names the lane, its steps over comments, and how
+    a run by mark was put to it."""
     told = subprocess.run([judge, *flags], input=data, stdout=subprocess.PIPE, check=True, timeout=timeout).stdout.decode()
     for line in told.splitlines():
-        sort, number, verdict, kind, nans, named, comments = line.split()
-        yield int(sort), int(number), verdict, None if kind == "-" else int(kind), int(nans), named == "1", int(comments)
+        sort, number, verdict, kind, nans, named, comments, by_mark = line.split()
+        yield int(sort), int(number), verdict, None if kind == "-" else int(kind), int(nans), named == "1", int(comments), int(by_mark)
 
 
 def tally(judge, cases):
@@ -79,13 +85,15 @@ def tally(judge, cases):
     told = list(judged(judge, b"".join(cases)))
     if len(told) != len(cases):
         sys.exit("expect.py: %d verdicts for %d cases" % (len(told), len(cases)))
-    for i, (sort, number, verdict, kind, nans, named, comments) in enumerate(told):
+    for i, (sort, number, verdict, kind, nans, named, comments, by_mark) in enumerate(told):
         found = name(sort, number, verdict, kind)
+        if found == AGREE and by_mark == TAKEN:
+            found = AIDED
         if found is None:
             wrong.append((i, verdict))
         else:
             counts[found] = counts.get(found, 0) + 1
-        for times, beside in ((nans, "NaN bits"), (comments, "comment as a step")):
+        for times, beside in ((nans, "NaN bits"), (comments, "comment as a step"), (by_mark, BY_MARK.get(by_mark))):
             if times:
                 counts[beside] = counts.get(beside, 0) + 1
         if number in (21, 22, 23):

@@ -16,9 +16,9 @@ import sys
 sys.path.insert(0, os.path.join(os.path.dirname(os.path.abspath(__file__)), "..", "tools"))
 import command
 import model01
-from lists import CHECK, FLATTEN, FRESH, JOIN, RUN, SLICES, STEP, Answer, Case, Machine, record, write
-from model01 import (ALLOC, AND, CALL, CELL_OPS, COMMENT, COUNTED, DEREF, ELSE, END, FREE, FUNCTION, GET, GEZ, IF, LANE_OPS, LOAD,
-                     MOVE, OFFSET, PEEK, POKE, PUT, REFER, RETURN, SET, SETF, STORE, WHERE, WHILE, WORD)
+from lists import CHECK, FLATTEN, FRESH, JOIN, RUN, RUNS, SLICES, STEP, Answer, Case, Machine, record, write
+from model01 import (ALLOC, AND, BY_MARK, BY_TABLE, CALL, CELL_OPS, COMMENT, COUNTED, DEREF, ELSE, END, FREE, FUNCTION, GET, GEZ, IF,
+                     LANE_OPS, LOAD, MOVE, OFFSET, PEEK, POKE, PUT, REFER, RETURN, SET, SETF, STORE, WHERE, WHILE, WORD)
 
 sys.setrecursionlimit(20000)
 EMPTY = [FUNCTION, CALL, RETURN, WHILE, IF, ELSE, END, WHERE, DEREF, REFER, ALLOC, FREE, PEEK, POKE]
@@ -71,8 +71,10 @@ def sized(sort, data, tape=0, inputs=(), room=4, budget=100):
     return c
 
 
-def fresh(data, **sizes):
-    return sized(FRESH, data, **sizes)
+def fresh(data, mode=BY_TABLE, **sizes):
+    c = sized(FRESH, data, **sizes)
+    c.mode = mode
+    return c
 
 
 def state(data, m=None, **sizes):
@@ -85,6 +87,29 @@ def stepped(c):
     """The same state, handed to the public step."""
     c.sort, c.budget, c.style = STEP, 1, c.style and "step"
     return c
+
+
+def in_mode(c, mode=BY_MARK):
+    """The same run or step in this call mode (02, ask 4)."""
+    c = copy.copy(c)
+    if c.sort == FRESH:
+        c.mode = mode
+    else:
+        c.machine = c.machine.copy()
+        c.machine.mode = mode
+    return c
+
+
+def both(c):
+    """The case, and its twin by mark."""
+    yield c
+    yield in_mode(c)
+
+
+def styled(style, cases):
+    for c in cases:
+        c.style = style
+        yield c
 
 
 def joining(data, room=None, fill=0xA5):
@@ -102,9 +127,22 @@ def flattening(data, room=None, bodies=None, fill=0x5A):
     return c
 
 
-def marks(data):
+def mark_places(data):
     number, _, ops = model01.read_patch(data)
-    return 0 if number else sum(o.kind == FUNCTION for o in ops)
+    return [] if number else [i for i, o in enumerate(ops) if o.kind == FUNCTION]
+
+
+def marks(data):
+    return len(mark_places(data))
+
+
+def entered(c, table):
+    """The case with these marks in its table, and something after them."""
+    c = copy.copy(c)
+    c.machine = c.machine.copy()
+    c.machine.functions = len(table)
+    c.table = table + [9, 8] + c.table[len(table) + 2:]
+    return c
 
 
 def checking(data):
@@ -384,6 +422,38 @@ class Maker:
             m.counted, c.style = 0, "lent cells not zero"
         return c
 
+    def routine(self, nest=0):
+        """A function that puts a number; others may stand in it, and it may call one."""
+        r = self.r
+        out = [op(FUNCTION)]
+        self.functions += 1
+        while nest < 3 and r.random() < 0.35:
+            out.append(self.routine(nest + 1))
+        out += [op(SET, self.functions), op(PUT, r.choice([0, 1]))]
+        if r.random() < 0.2:
+            out.append(self.numbered_call())
+        return patch(*out, *[op(RETURN)] * (r.random() < 0.9), op(END))
+
+    def numbered_call(self):
+        return op(SET, self.r.randrange(max(3, self.functions) + (self.r.random() < 0.1))) + op(CALL)
+
+    def routines(self):
+        """Calls in any order of functions side by side and in each other, from fresh, from any table, or by a step."""
+        r = self.r
+        self.functions = 0
+        before, after = ([self.routine() for _ in range(n)] for n in r.choice([(0, 1), (0, 2), (0, 4), (1, 1), (1, 3), (3, 1)]))
+        data = patch(*before, *[self.numbered_call() for _ in range(r.randint(1, 6))], op(RETURN), *after)
+        sizes = dict(room=12, budget=r.choice([20, 60, 60]))
+        if r.random() < 0.5:
+            return fresh(data, **sizes)
+        places = mark_places(data)
+        c = entered(state(data, **sizes), sorted(r.sample(places, r.randint(0, len(places)))))
+        if r.random() < 0.3:
+            c.machine.position = r.choice([i for i, o in enumerate(model01.read_patch(data)[2]) if o.kind == CALL])
+            c.register[0] = r.randrange(len(places) + 1)
+            return stepped(c)
+        return c
+
     def edge(self):
         """A state at a limit, or one away from it."""
         r = self.r
@@ -577,7 +647,7 @@ class Maker:
 
 
 def randoms(seed, count):
-    maker = Maker(seed)
+    maker, caller = Maker(seed), Maker("calls %d" % seed)
     for i in range(count):
         c = maker.case()
         yield c
@@ -589,6 +659,18 @@ def randoms(seed, count):
             short.machine, short.style = c.machine.copy(), "short tape"
             short.machine.counted = 1 + 7919 * i % 29_999
             yield short if i % 2 else stepped(short)
+        # some runs and steps by mark too, some with a table that holds every mark in both modes, and few in a mode that there is not
+        if c.sort in RUNS:
+            ways = [c, stepped(copy.copy(c))] if c.sort == RUN else [c]
+            if i % 4 == 1:
+                yield from styled("by mark", map(in_mode, ways))
+            if i % 8 == 3 and c.style in ("mid-state", "boundary") and marks(c.patch):
+                yield from styled("every mark", both(entered(ways[i // 8 % 2], mark_places(c.patch))))
+            if i % 32 == 2:
+                yield from styled("no mode", (in_mode(ways[i // 256 % len(ways)], UNKNOWN[i // 32 % len(UNKNOWN)]),))
+        # many calls, in both modes
+        if i % 16 == 5:
+            yield from styled("routines", both(caller.routines()))
         # and some runs with comments
         if i % 8 == 4 and c.style not in ("", "no state"):
             yield with_comments(c, random.Random(i))
@@ -780,6 +862,20 @@ def openings():
             yield c
 
 
+def filled(c, counted=30_000):
+    """The case with something in every slice, but for the cells beyond the length; a state gets this length."""
+    if c.sort != FRESH:
+        m = c.machine
+        m.counted, m.lanes, m.waiting, m.written = counted, 3, 2, 1
+    cells = min(counted, len(c.tape))
+    c.tape[:cells] = [2 + i for i in range(cells)]
+    c.register[:5] = [1, 2, 3, 4, 5]
+    c.table[:3] = [9, 8, 7]
+    c.channel[:4] = [11, 12, 13, 14]
+    c.outputs[:4] = [21, 22, 23, 24]
+    return c
+
+
 def lengths():
     """States of every length around the first allocation, handed to a run and to a step: 1 to 29,999 is 37 (02, ask 12), and then nothing that is
     lent has changed. Every slice holds something, but for the cells beyond the length."""
@@ -788,15 +884,7 @@ def lengths():
     for counted in (0, 1, 2, 14, 29_998, 29_999, 30_000, 30_001):
         for data in patches:
             for call in (lambda c: c, stepped):
-                c = state(data, tape=16, inputs=(49,), room=4)
-                m = c.machine
-                m.counted, m.lanes, m.waiting, m.written = counted, 3, 2, 1
-                c.tape[:min(counted, 16)] = [2 + i for i in range(min(counted, 16))]
-                c.register[:5] = [1, 2, 3, 4, 5]
-                c.table[:3] = [9, 8, 7]
-                c.channel[:4] = [11, 12, 13, 14]
-                c.outputs[:] = [21, 22, 23, 24]
-                yield call(c)
+                yield call(filled(state(data, tape=16, inputs=(49,)), counted))
         # the file is read first, and a machine at its end has the test too
         for data, numbers in ((op(FREE)[:5], {}), (op(FREE), dict(halted=1)), (op(FREE), dict(position=1)), (op(FREE), dict(pointer=1_000_000_001))):
             for call in (lambda c: c, stepped):
@@ -980,6 +1068,8 @@ def with_comments(c, r):
         c.machine.position += past
         if r.random() < 0.2:
             stepped(c)
+    if r.random() < 0.3:
+        c = in_mode(c)
     c.style = "annotated"
     return c
 
@@ -1054,10 +1144,129 @@ def comments():
         yield fresh(data, budget=0)
 
 
+# ---- calls by mark (02, ask 4)
+
+# modes that there are not: one past the last, and what a mode of fewer bits or with a sign would take for one that there is
+UNKNOWN = [2, (1 << 32) - 1, 3, 256, 257, 1 << 16, 1 << 31, (1 << 31) + 1]
+
+
+def routine(n, *more):
+    """A function that puts n, and returns."""
+    return patch(op(FUNCTION), op(SET, n), op(PUT, 0), *more, op(RETURN), op(END))
+
+
+CASE9 = patch(op(SET, 1), op(CALL), op(SET, 0), op(CALL), op(RETURN), routine(65), routine(66))
+
+
+def around_marks():
+    """Patches of three marks after a Call and a Return: side by side, one in the other, three deep, in brackets, and none of them closed."""
+    own = op(SET, 1) + op(PUT, 0) + op(RETURN)
+    for data in (routine(1) + routine(2) + routine(3), op(FUNCTION) + routine(2) + own + op(END) + routine(3),
+                 op(FUNCTION) * 3 + own + op(END) * 3, op(IF) + routine(1) + op(ELSE) + routine(2) + op(END) + op(WHILE) + routine(3) + op(END),
+                 (op(FUNCTION) + own) * 2 + op(FUNCTION)):
+        yield op(CALL) + op(RETURN) + data
+
+
+def sublists(places):
+    """Every table that these places can make."""
+    return [list(some) for n in range(len(places) + 1) for some in itertools.combinations(places, n)]
+
+
+def resumed(c, steps):
+    """The rest of a fresh run, from the state that so many steps leave."""
+    first = copy.copy(c)
+    first.budget = steps
+    a = model01.answer(first)
+    c = copy.copy(c)
+    c.sort, c.machine, c.budget = RUN, a.machine, c.budget - a.steps
+    for name in SLICES:
+        setattr(c, name, getattr(a, name))
+    return c
+
+
+def short_calls():
+    """Every patch of up to 5 ops with a Call and a mark, from each table and with lane 0 from 0 to 2, in both modes."""
+    for n in range(2, 6):
+        for ops in itertools.product([op(FUNCTION), op(CALL), op(RETURN), op(END)], repeat=n):
+            if op(FUNCTION) in ops and op(CALL) in ops:
+                for table, k in itertools.product(sublists([i for i, one in enumerate(ops) if one == op(FUNCTION)]), range(3)):
+                    c = entered(state(patch(*ops), budget=12), table)
+                    c.register[0] = k
+                    yield from both(c)
+
+
+def calls():
+    """Calls in both modes, from every table of a few marks and in the order of the refusals; runs by mark taken up again; and modes that there are
+    not, with something in every slice."""
+    # k up to the number of marks, from tables by which the modes part or do not; every other one by a step
+    for which, data in enumerate(around_marks()):
+        places = mark_places(data)
+        for table in sublists(places) if which < 2 else ([], places[1:2], places[::2], places):
+            for k in range(4):
+                c = entered(state(data, budget=12), table)
+                c.register[0] = k
+                yield from both(stepped(c) if (k + len(table)) % 2 else c)
+    # 21, 28, 32, 29
+    data = next(around_marks())
+    for lanes, k, depth in ((0, -1, 256), (1, -1, 256), (1, 3, 256), (1, 2, 256), (1, (1 << 63) - 1, 256), (1, 3, 255), (1, 2, 255), (0, 0, 0),
+                            (1, -1, 0), (1, 1 << 63, 0), (1, (1 << 63) - 1, 0), (1, 1 << 32, 0), (1, 256, 0)):
+        c = entered(state(data, budget=1), mark_places(data)[1:2])
+        c.register[0] = k & WORD
+        c.machine.lanes, c.machine.calls = lanes, [1] * depth
+        if depth == 0:
+            yield c
+        for call in (lambda c: c, stepped):
+            yield call(in_mode(c))
+    # there is no mark; the table has half of them; it is full or lacks one
+    yield from both(fresh(op(CALL)))
+    every = [2 * k for k in range(16)]
+    tables = [(16, every[1::2], k) for k in (0, 1, 6, 7, 14, 15)] + [(16, every[:k] + every[k + 1:], k) for k in (0, 7, 15)] + [(16, every, 7)]
+    tables += [(256, [2 * k for k in range(256) if k != lacking], lacking % 256) for lacking in (0, 255, 256)] + [(256, [], 255), (256, [], 256)]
+    for n, table, k in tables:
+        c = entered(state(patch(*in_order(n), op(SET, k), op(CALL)), budget=3), table)
+        c.machine.position = 2 * n
+        yield from both(c) if n == 16 else [in_mode(c)]
+    # before any mark has run
+    for order in ([0, 1], [1, 0], range(16), range(15, -1, -1), [5, 3, 3, 11, 0, 5, 15, 14], range(255, -1, -1)):
+        numbers = [op(SET, k) + op(CALL) for k in order]
+        data = patch(*numbers, op(RETURN), (op(FUNCTION) + op(RETURN) + op(END)) * (max(order) + 1))
+        yield from both(fresh(data, budget=1000)) if len(numbers) < 256 else [fresh(data, BY_MARK, budget=1000)]
+    # taken up again after each step: case 9, and a loop of calls to the last mark, the one before it, which stands in the first, and the first
+    again = op(LOAD, 1)
+    loop = patch(op(SET, 2), op(WHILE), op(STORE, 1), op(CALL), op(model01.DEC, 1), op(END), op(CALL), op(RETURN), op(FUNCTION), routine(2, again),
+                 op(SET, 1), op(PUT, 0), again, op(RETURN), op(END), routine(3, again))
+    for data, steps in ((CASE9, 11), (loop, 25)):
+        for k in range(steps + 1):
+            c = resumed(fresh(data, BY_MARK, tape=2), k)
+            yield c
+            if k % 3 == 1:
+                yield stepped(in_mode(c))
+                yield in_mode(c, BY_TABLE)
+    # 37 changes nothing, and comes after the file's numbers; a fresh run that is refused answers the mode that it was handed
+    free = op(FREE)
+    for mode in (BY_TABLE, BY_MARK, *UNKNOWN):
+        for data in (free, op(CALL) + op(FUNCTION) + op(END)):
+            yield in_mode(filled(fresh(data, tape=3)), mode)
+            for call in (lambda c: c, stepped):
+                yield call(in_mode(filled(state(data, tape=3)), mode))
+    for mode in (BY_MARK, *UNKNOWN[:2]):
+        for data in (b"", NOTE + free, op(RETURN), free[:5], op(IF)):
+            for budget in (0, 1):
+                yield in_mode(filled(fresh(data, tape=3, budget=budget)), mode)
+                yield in_mode(filled(state(data, tape=3, budget=budget)), mode)
+        for numbers in (dict(halted=1), dict(position=1), dict(counted=1), dict(pointer=1_000_000_001)):
+            for call in (lambda c: c, stepped):
+                yield call(at_limit(free, mode=mode, **numbers))
+        for name in ("register", "table", "channel"):
+            c = in_mode(filled(fresh(free, tape=3)), mode)
+            setattr(c, name, getattr(c, name)[:-1])
+            yield c
+
+
 # ---- 01's own cases
 
 def paper():
-    """The cases of 'Proved by one table', in its order."""
+    """The cases of 'Proved by one table', in its order; after case 9 the same by mark, which 02 adds."""
     least = 1 << 63
     for kind in (model01.DIV, model01.REM):
         for a, b in ((least, WORD), (-7, 2)):
@@ -1070,10 +1279,8 @@ def paper():
         yield call(op(LOAD, 0) + op(IF))
         yield call(op(END))
     yield fresh(op(GET, 1), inputs=(32, 305, 65))
-    case9 = (op(SET, 1) + op(CALL) + op(SET, 0) + op(CALL) + op(RETURN) + op(FUNCTION) + op(SET, 65) + op(PUT, 0) + op(RETURN) + op(END)
-             + op(FUNCTION) + op(SET, 66) + op(PUT, 0) + op(RETURN) + op(END))
-    yield fresh(case9, tape=4096, room=4096, budget=100_000)
-    yield checking(case9)
+    yield from both(fresh(CASE9, tape=4096, room=4096, budget=100_000))
+    yield checking(CASE9)
     yield joining(op(MOVE, 3) + op(SET, 1) + op(MOVE, -3))
     yield joining(op(DEREF) + op(MOVE, 5) + op(REFER))
     yield flattening(op(COMMENT, b" a") + op(FUNCTION) + op(END) + op(FUNCTION) + op(END))
@@ -1160,6 +1367,11 @@ def rusts_own():
     yield "comment as a step", said(fresh(NOTE), 1, 0, [], position=1)
 
 
+def limits():
+    """All the cases but the exhaustive and the random ones."""
+    return itertools.chain(paper(), boundary(), partners(), missing(), comments(), short_comments(), calls(), short_calls())
+
+
 def answered(cases):
     for c in cases:
         c.answer = model01.answer(c)
@@ -1170,7 +1382,7 @@ def main(args):
     if args[:1] == ["exhaustive"]:
         cases = exhaustive()
     elif args[:1] == ["boundary"]:
-        cases = itertools.chain(paper(), boundary(), partners(), missing(), comments(), short_comments())
+        cases = limits()
     elif args[:1] == ["smallest"]:
         cases = (c for _, _, c in smallest())
     elif args[:1] == ["random"] and len(args) == 3:

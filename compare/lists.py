@@ -29,19 +29,20 @@ NAMES = {
 
 
 class Machine:
-    """The machine's numbers, and its two stacks."""
+    """The machine's numbers, its two stacks, and its call mode. Without more it is the fresh one of that mode."""
 
-    __slots__ = NUMBERS + ["calls", "refs"]
+    __slots__ = NUMBERS + ["calls", "refs", "mode"]
 
-    def __init__(self):
+    def __init__(self, mode=0):
         for name in NUMBERS:
             setattr(self, name, 0)
         self.lanes = 1024
         self.calls = []
         self.refs = []
+        self.mode = mode
 
     def copy(self):
-        m = Machine()
+        m = Machine(self.mode)
         for name in NUMBERS:
             setattr(m, name, getattr(self, name))
         m.calls = self.calls[:]
@@ -52,11 +53,13 @@ class Machine:
 class Case:
     """A case of a list; which of these it has goes by its sort."""
 
-    __slots__ = ["sort", "patch", "budget", "inputs", "machine", "room", "fill", "bodies", "answer", "style"] + SLICES
+    __slots__ = ["sort", "patch", "budget", "mode", "inputs", "machine", "room", "fill", "bodies", "answer", "style"] + SLICES
 
     def __init__(self, sort, patch):
         self.sort = sort
         self.patch = patch
+        # of a fresh run; a state has its own
+        self.mode = 0
         self.machine = None
         self.answer = None
         self.style = ""
@@ -83,7 +86,7 @@ def sparse(values):
 
 
 def write_machine(m):
-    numbers = struct.pack("<12I", *[int(getattr(m, name)) for name in NUMBERS], len(m.calls), len(m.refs))
+    numbers = struct.pack("<13I", *[int(getattr(m, name)) for name in NUMBERS], len(m.calls), len(m.refs), m.mode)
     stacks = m.calls[:256] + m.refs[:256]
     return numbers + struct.pack("<%dI" % len(stacks), *stacks)
 
@@ -97,8 +100,7 @@ def write(case):
         for name in SLICES:
             values = getattr(case, name)
             out += [u32(len(values)), sparse(values)]
-        if case.sort in FROM_STATE:
-            out.append(write_machine(case.machine))
+        out.append(write_machine(case.machine) if case.sort in FROM_STATE else u32(case.mode))
         out += [struct.pack("<4I", a.number, a.steps, a.place, a.lane), write_machine(a.machine)]
         out += [sparse(getattr(a, name)) for name in SLICES]
     elif case.sort in (JOIN, FLATTEN):
@@ -143,8 +145,8 @@ class Reader:
         return values
 
     def machine(self):
-        m = Machine()
-        got = self.numbers("I", 12)
+        got = self.numbers("I", 13)
+        m = Machine(got[12])
         for name, v in zip(NUMBERS, got):
             setattr(m, name, v)
         m.calls = self.numbers("I", min(got[10], 256)) + [0] * max(0, got[10] - 256)
@@ -167,6 +169,8 @@ def read(data):
                 setattr(c, name, r.sparse(r.u32()))
             if sort in FROM_STATE:
                 c.machine = r.machine()
+            else:
+                c.mode = r.u32()
             number, steps, place, lane = r.numbers("I", 4)
             a = Answer(number, place)
             a.steps = steps
@@ -252,14 +256,15 @@ def slice_words(values):
 
 
 def machine_words(m):
-    return ", ".join("%s %d" % (n, getattr(m, n)) for n in NUMBERS) + ", calls %s, refs %s" % (m.calls, m.refs)
+    return ", ".join("%s %d" % (n, getattr(m, n)) for n in NUMBERS) + ", calls %s, refs %s, mode %d" % (m.calls, m.refs, m.mode)
 
 
 def show(c):
     a = c.answer
     out = [SORTS[c.sort], "  patch: %s" % patch_words(c.patch)]
     if c.sort in RUNS:
-        out.append("  budget %d, inputs %s" % (c.budget, [signed(v) for v in c.inputs]))
+        mode = ", mode %d" % c.mode if c.sort == FRESH else ""
+        out.append("  budget %d%s, inputs %s" % (c.budget, mode, [signed(v) for v in c.inputs]))
         out += ["  %s %s" % (name, slice_words(getattr(c, name))) for name in SLICES]
         if c.sort in FROM_STATE:
             out.append("  from: " + machine_words(c.machine))

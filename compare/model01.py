@@ -15,6 +15,8 @@ FARTHEST, LONGEST = 1_000_000_000, 2_000_000_000
 BLOCK = 100_000
 # 02, ask 12: what a tape grows by from nothing, so that none has 1 to 29,999 cells
 FIRST = 30_000
+# 02, ask 4: the call modes, the Rust's table and by mark
+BY_TABLE, BY_MARK = range(2)
 WORD = (1 << 64) - 1
 LEAST = 1 << 63
 NAN = 0x7FF8000000000000
@@ -237,6 +239,9 @@ def is_state(ops, c, m):
     """37's test: a well-formed state in lent room that is long enough."""
     if len(c.register) < LANES or len(c.table) < MARKS or len(c.channel) < DEPTH:
         return False
+    # 02, ask 4: "37 also for an unknown mode"
+    if m.mode not in (BY_TABLE, BY_MARK):
+        return False
     if m.pointer > FARTHEST or m.counted > LONGEST or m.lanes > LANES or m.functions > MARKS:
         return False
     if 0 < m.counted < FIRST:
@@ -251,6 +256,14 @@ def is_state(ops, c, m):
     if any(a >= b for a, b in zip(table, table[1:])):
         return False
     return all(t < len(ops) and ops[t].kind == FUNCTION for t in table)
+
+
+def routine(ops, m, table, k):
+    """The mark that a Call with k goes to, or None. 02, ask 4: by mark "k always means the k-th Function mark in the patch, whatever has run"."""
+    if m.mode == BY_TABLE and m.functions > k:
+        return table[k]
+    marks = [i for i, op in enumerate(ops) if op.kind == FUNCTION]
+    return marks[k] if k < len(marks) else None
 
 
 def enter(m, table, place):
@@ -316,14 +329,10 @@ def step(ops, inputs, m, s):
             return 28
         if len(m.calls) == DEPTH:
             return 32
-        if m.functions > k:
-            mark = s.table[k]
-        else:
-            marks = [i for i, o in enumerate(ops) if o.kind == FUNCTION]
-            if k >= len(marks):
-                return 29
-            mark = marks[k]
-            enter(m, s.table, mark)
+        mark = routine(ops, m, s.table, k)
+        if mark is None:
+            return 29
+        enter(m, s.table, mark)
         m.calls.append(at)
         m.position = mark
     elif kind == RETURN:
@@ -459,7 +468,8 @@ def run(c):
     a.steps = 0
     for name in SLICES:
         setattr(a, name, getattr(c, name)[:])
-    m = a.machine = Machine() if c.sort == FRESH else c.machine.copy()
+    # "chosen when a run starts and kept in the state"
+    m = a.machine = Machine(c.mode) if c.sort == FRESH else c.machine.copy()
     a.number, a.place, ops = read_patch(c.patch)
     if a.number:
         return a

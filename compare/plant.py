@@ -14,6 +14,11 @@ import lists
 
 LANE = "        a.lane = missing_lane(a.number, m, a)\n"
 PASS = "        pass_comments(ops, m)\n"
+ENTRY = "    if m.mode == BY_TABLE and m.functions > k:\n"
+MARKS = "    marks = [i for i, op in enumerate(ops) if op.kind == FUNCTION]\n"
+MARK = "    return marks[k] if k < len(marks) else None\n"
+ENTER = "        enter(m, s.table, mark)\n"
+NO_STATE = "        a.number, a.place = 37, 0\n"
 # what is wrong, the line of model01.py that says it right, and the wrong one
 READINGS = [
     ("End goes back to test the While again", "                m.position = partner\n", "                m.position = partner - 1\n"),
@@ -24,7 +29,7 @@ READINGS = [
      "    elif kind == ELSE:\n        end = to_end(ops, at)\n        back = partner_of_end(ops, at)\n"
      "        if back is not None and ops[back].kind == WHILE and end is not None:\n            end = back\n"),
     ("an If takes an Else at any depth", "at_else and depth == 1", "at_else"),
-    ("a call takes the k-th mark, not the table's entry", "        if m.functions > k:\n", "        if False:\n"),
+    ("a call takes the k-th mark, not the table's entry", ENTRY, "    if False:\n"),
     ("the table is not sorted", "sorted(table[:count] + [place])", "table[:count] + [place]"),
     ("a place is entered twice", "    if place in table[:count]:\n        return\n", ""),
     ("a place is entered one too low", "    table[:count + 1] = sorted(table[:count] + [place])\n",
@@ -104,7 +109,7 @@ READINGS = [
      "            a.number = 0 if c.sort == STEP else 50\n            a.lane = 0 if a.number else m.lanes\n"),
     ("a run that is over carries the register's length", "        if m.halted or m.position == len(ops):\n            return a\n",
      "        if m.halted or m.position == len(ops):\n            a.lane = m.lanes\n            return a\n"),
-    ("37 carries the register's length", "        a.number, a.place = 37, 0\n", "        a.number, a.place, a.lane = 37, 0, m.lanes\n"),
+    ("37 carries the register's length", NO_STATE, "        a.number, a.place, a.lane = 37, 0, m.lanes\n"),
 ]
 # of comments (02, ask 8)
 OF_COMMENTS = [
@@ -118,7 +123,103 @@ OF_COMMENTS = [
     ("a refused step goes back before the comments", LANE,
      LANE + "        while a.number and m.position and ops[m.position - 1].kind == COMMENT:\n            m.position -= 1\n"),
     ("a halted machine passes comments", "while not m.halted and ", "while "),
-    ("37 passes comments", "        a.number, a.place = 37, 0\n", "        a.number, a.place = 37, 0\n" + PASS),
+    ("37 passes comments", NO_STATE, NO_STATE + PASS),
+]
+
+
+def by_mark(wrong, right):
+    """What a step does by mark, and what it does in the Rust's mode."""
+    return "        if m.mode == BY_MARK:\n            %s\n        else:\n    %s" % (wrong, right)
+
+
+def counted(marks):
+    """These marks are the ones that are counted by mark."""
+    return MARKS + "    if m.mode == BY_MARK:\n        marks = %s\n" % marks
+
+
+def taken_as(what, when, mode, kept="was"):
+    """The reading that takes a mode as another one; if nothing is said of it, the answer has the one that it was."""
+    return (what, "        return run(c)\n", "        import copy\n        d = copy.copy(c)\n        was = c.mode if c.sort == FRESH else c.machine.mode\n"
+            "        if %s:\n            d.mode, d.machine = %s, c.machine and c.machine.copy()\n            if d.machine:\n"
+            "                d.machine.mode = d.mode\n        a = run(d)\n        a.machine.mode = %s\n        return a\n" % (when, mode, kept))
+
+
+NESTED = "any(j < i < (to_end(ops, j) or len(ops)) for j in marks)"
+# of the call mode (02, ask 4)
+OF_MODES = [
+    ("by mark takes the k-th entered", ENTRY, "    if m.functions > k:\n"),
+    ("by mark takes the k-th that is not entered", MARKS, counted("[i for i in marks if i not in table[:m.functions]]")),
+    ("by mark takes only what is entered", MARKS, counted("[i if i in table[:m.functions] else None for i in marks]")),
+    ("by mark counts nested marks last", MARKS, counted("sorted(marks, key=lambda i: (%s, i))" % NESTED)),
+    ("by mark counts no nested marks", MARKS, counted("[i for i in marks if not %s]" % NESTED)),
+    ("by mark counts a mark after those in it", MARKS, counted("sorted(marks, key=lambda i: to_end(ops, i) or len(ops))")),
+    ("by mark counts no mark that is never closed", MARKS, counted("[i for i in marks if to_end(ops, i) is not None]")),
+    ("by mark counts no mark in an If or While", MARKS,
+     counted("[i for i in marks if not any(j < i < (to_end(ops, j) or 0) for j, op in enumerate(ops) if op.kind in (IF, WHILE))]")),
+    ("by mark counts from 1", MARKS, counted("[None] + marks")),
+    ("by mark counts from the last", MARKS, counted("marks[::-1]")),
+    ("by mark counts from the Call on", MARKS, counted("[i for i in marks if i > m.position]")),
+    ("by mark leaves out the last mark", MARKS, counted("marks[:-1]")),
+    ("by mark 29 goes by the table's entries", MARK, "    return marks[k] if k < min(len(marks), m.functions if m.mode == BY_MARK else MARKS) else None\n"),
+    ("by mark 29 stands for the last mark", MARK, "    return marks[k] if k < len(marks) else marks[-1] if m.mode == BY_MARK and marks else None\n"),
+    ("by mark looks at 32 bits of k", MARKS, counted("marks") + "        k %= 1 << 32\n"),
+    ("by mark looks at 8 bits of k", MARKS, counted("marks") + "        k %= 256\n"),
+    ("by mark a negative k is 29", "            return 28\n", "            return 29 if m.mode == BY_MARK else 28\n"),
+    ("by mark 32 before 28", "        if k < 0:\n            return 28\n",
+     "        if m.mode == BY_MARK and len(m.calls) == DEPTH:\n            return 32\n        if k < 0:\n            return 28\n"),
+    ("by mark 29 before 32", "        if len(m.calls) == DEPTH:\n",
+     "        if len(m.calls) == DEPTH and (m.mode == BY_TABLE or routine(ops, m, s.table, k) is not None):\n"),
+    ("by mark 28 before 21", "    elif kind in ONE_LANE and kind not in NO_LANE_WHEN_RUN and m.lanes < 1:\n        return 21\n",
+     "    elif kind in ONE_LANE and kind not in NO_LANE_WHEN_RUN and m.lanes < 1:\n"
+     "        return 28 if m.mode == BY_MARK and kind == CALL and signed(reg[0]) < 0 else 21\n"),
+    ("by mark needs no lane", "kind not in NO_LANE_WHEN_RUN and m.lanes < 1",
+     "kind not in NO_LANE_WHEN_RUN and m.lanes < (kind != CALL or m.mode == BY_TABLE)"),
+    ("by mark enters nothing", ENTER, by_mark("pass", ENTER)),
+    ("by mark enters nothing where the table has more than k", ENTER, "        if m.mode == BY_TABLE or m.functions <= k:\n    " + ENTER),
+    ("by mark enters after the last entry", ENTER,
+     by_mark("if mark not in s.table[:m.functions]:\n                s.table[m.functions] = mark\n                m.functions += 1", ENTER)),
+    ("by mark enters as entry k", ENTER, by_mark("s.table[k], m.functions = mark, max(m.functions, k + 1)", ENTER)),
+    ("by mark enters once more what is there", ENTER,
+     by_mark("s.table[:m.functions + 1] = sorted(s.table[:m.functions] + [mark])\n            m.functions += 1", ENTER)),
+    ("by mark enters every mark up to the k-th", ENTER, by_mark("[enter(m, s.table, i) for i in range(mark + 1) if ops[i].kind == FUNCTION]", ENTER)),
+    ("by mark a 29 leaves the place saved", "            return 29\n", "            m.calls += [at] * (m.mode == BY_MARK)\n            return 29\n"),
+    ("by mark a Function that is run enters nothing", "        enter(m, s.table, at)\n", by_mark("pass", "        enter(m, s.table, at)\n")),
+    ("by mark goes to the mark", "        m.position = mark\n", "        m.position = mark - (m.mode == BY_MARK)\n"),
+    ("by mark saves no place", "        m.calls.append(at)\n", by_mark("pass", "        m.calls.append(at)\n")),
+    ("a Call by mark leaves the Rust's mode", ENTER, ENTER + "        m.mode = BY_TABLE\n"),
+    ("a Return leaves the Rust's mode", "            m.position = m.calls.pop()\n", "            m.position = m.calls.pop()\n            m.mode = BY_TABLE\n"),
+    ("a halt leaves the Rust's mode", "            m.halted = 1\n", "            m.halted = 1\n            m.mode = BY_TABLE\n"),
+    taken_as("a run taken up again forgets the mode", "c.sort not in (FRESH, STEP) and was == BY_MARK", "BY_TABLE", "a.machine.mode"),
+    taken_as("a run taken up again calls by the table", "c.sort not in (FRESH, STEP) and was == BY_MARK", "BY_TABLE"),
+    taken_as("a step forgets the mode", "c.sort == STEP and was == BY_MARK", "BY_TABLE", "a.machine.mode"),
+    taken_as("a step calls by the table", "c.sort == STEP and was == BY_MARK", "BY_TABLE"),
+    taken_as("a fresh run calls by the table", "c.sort == FRESH and was == BY_MARK", "BY_TABLE"),
+    taken_as("a fresh run by mark leaves the Rust's mode", "False", "was", "BY_TABLE if c.sort == FRESH and was == BY_MARK else was"),
+    taken_as("every run is by mark", "was == BY_TABLE", "BY_MARK"),
+    taken_as("mode 2 is by mark", "was == 2", "BY_MARK"),
+    taken_as("mode 2 is the Rust's", "was == 2", "BY_TABLE"),
+    taken_as("mode 2^32 - 1 is by mark", "was == (1 << 32) - 1", "BY_MARK"),
+    taken_as("every other mode is by mark", "was > BY_MARK", "BY_MARK"),
+    taken_as("every other mode is the Rust's", "was > BY_MARK", "BY_TABLE"),
+    taken_as("a mode has 8 bits", "was >= 256", "was % 256"),
+    taken_as("a mode has 16 bits", "was >= 1 << 16", "was % (1 << 16)"),
+    taken_as("a mode has 31 bits", "was >= 1 << 31", "was % (1 << 31)"),
+    taken_as("a run from a state has no test of the mode", "c.sort not in (FRESH, STEP) and was > BY_MARK", "BY_TABLE"),
+    taken_as("a step has no test of the mode", "c.sort == STEP and was > BY_MARK", "BY_TABLE"),
+    taken_as("a fresh run has no test of the mode", "c.sort == FRESH and was > BY_MARK", "BY_TABLE"),
+    taken_as("an unknown mode is answered as the Rust's", "False", "was", "was if was <= BY_MARK else BY_TABLE"),
+    ("a mode is seen before the file", "    if a.number:\n        return a\n    if not is_state",
+     "    if a.number:\n        if m.mode > BY_MARK:\n            a.number, a.place = 37, 0\n        return a\n    if not is_state"),
+    ("a fresh run with a bad file answers the Rust's mode", "    if a.number:\n        return a\n    if not is_state",
+     "    if a.number:\n        if c.sort == FRESH:\n            m.mode = BY_TABLE\n        return a\n    if not is_state"),
+    ("a fresh run with 37 answers the Rust's mode", NO_STATE, NO_STATE + "        if c.sort == FRESH:\n            m.mode = BY_TABLE\n"),
+    ("an unknown mode is refused after the zeros are written to the tape", NO_STATE,
+     NO_STATE + "        if c.sort == FRESH and m.mode > BY_MARK:\n            a.tape[:] = [0] * len(a.tape)\n"),
+    ("an unknown mode is refused after the zeros are written to the register", NO_STATE,
+     NO_STATE + "        if c.sort == FRESH and m.mode > BY_MARK:\n            a.register[:LANES] = [0] * LANES\n"),
+    ("an unknown mode is refused after the comments are passed", NO_STATE, NO_STATE + "        if m.mode > BY_MARK:\n    " + PASS),
+    ("an unknown mode of a machine at its end is no refusal", "    if m.mode not in (BY_TABLE, BY_MARK):\n",
+     "    if m.mode not in (BY_TABLE, BY_MARK) and not m.halted and m.position < len(ops):\n"),
 ]
 
 
@@ -152,7 +253,7 @@ def main(args):
         with open(os.path.join(HERE, "..", "lists", name + ".list"), "rb") as f:
             cases += [(c, data) for data in lists.split(f.read()) for c in lists.read(data)]
     missed = 0
-    for what, wrong in planted(READINGS + OF_COMMENTS):
+    for what, wrong in planted(READINGS + OF_COMMENTS + OF_MODES):
         found = sum(finds(wrong, c, data) for c, data in cases)
         print("%5d  %s" % (found, what), flush=True)
         missed += not found

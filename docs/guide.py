@@ -8,7 +8,7 @@
 An example is one of these.
 - A row of a table whose last two columns are 'Example' and 'Gives'. Example: the ops in a code span, with ';' between them, as
   patches/make.py takes them; before it 'join' or 'flatten' where it is no run; after it words with a value in a code span: input, cells,
-  outputs, budget, position and length (of a run from a state), room and bodies (of a join or a flattening). 'N * ' before an op or a value repeats it.
+  outputs, budget, mode (the call mode), position and length (of a run from a state), room and bodies (of a join or a flattening). 'N * ' before an op or a value repeats it.
 - A block 'patch' with one op a line, and after it a block 'trace', which has a line for each step, with what its first line names.
 Gives: what to show, each a word and its values; the words are written by hand, the values here. A refusal is always shown.
 A table whose first column is 'Kind' or 'No.' has the example of that kind or number: each kind and each number must have one.
@@ -74,11 +74,12 @@ class Example:
         else:
             c = lists.Case(lists.RUN if {"position", "length"} & set(self.said) else lists.FRESH, self.patch)
             c.budget = self.number("budget") if budget is None else budget
+            c.mode = self.number("mode")
             c.inputs = [int(v) % 2**64 for v in self.said.get("input", "").split()]
             c.tape, c.outputs = [0] * self.number("cells"), [0] * self.number("outputs")
             c.register, c.table, c.channel = [0] * 1024, [0] * 256, [0] * 256
             if c.sort == lists.RUN:
-                c.machine = lists.Machine()
+                c.machine = lists.Machine(self.number("mode"))
                 c.machine.position, c.machine.counted = self.number("position"), self.number("length")
         c.answer = model01.answer(c)
         return c

@@ -22,15 +22,16 @@ import plant  # noqa: E402
 # of every style of random case so many, none of more bytes than this; full stacks are longer
 STYLES = {"soup": 130, "bracketed": 150, "checked": 170, "soup floats": 60, "bracketed floats": 60, "checked floats": 80, "mid-state": 260, "step": 60,
           "boundary": 80, "no state": 50, "short tape": 20, "lent room": 10, "lent cells not zero": 6, "file": 60, "check": 60}
-LONG = 804
-FULL = 2604
+LONG = 812
+FULL = 2612
 # every number of the paper's table, each at least so often
 NUMBERS = [0, *range(1, 14), *range(20, 31), *range(32, 38), 40, 50]
 OFTEN = 3
 # cases for each wrong reading
 TELLING = 6
-# random runs with comments
-ANNOTATED = 100
+# random runs with comments; and of the call mode, where the first two styles are pairs of one run in both modes
+ANNOTATED = {"annotated": 100}
+MODES = {"routines": 70, "every mark": 24, "by mark": 50, "no mode": 10}
 # joinings and flattenings that are written
 SHAPES = 330
 WIDE = 900
@@ -54,7 +55,7 @@ def style(c):
         return "shape"
     if c.sort == lists.CHECK:
         return "check"
-    return "file" if 1 <= c.answer.number <= 9 else c.style
+    return "file" if 1 <= c.answer.number <= 9 and not c.style else c.style
 
 
 def replay_list(judge):
@@ -104,6 +105,16 @@ def replay_list(judge):
                     keep(c, data)
                     found += 1
 
+    def sample(seed, count, wanted):
+        """Of random cases so many of these styles."""
+        left = dict(wanted)
+        for c, data, _ in settled(judge, (c for c in generate.randoms(seed, count) if c.style in wanted)):
+            if len(data) < LONG and left[c.style]:
+                left[c.style] -= 1
+                keep(c, data)
+        if any(left.values()):
+            sys.exit("lists/make.py: too few of a style: %s" % left)
+
     tell(plant.READINGS)
     for number in NUMBERS:
         for c, data in edges:
@@ -115,10 +126,13 @@ def replay_list(judge):
     # comments, and random runs with them
     for c, data, _ in settled(judge, generate.comments()):
         keep(c, data)
-    annotated = settled(judge, (c for c in generate.randoms(2029, 3000) if c.style == "annotated"))
-    for c, data, _ in itertools.islice((told for told in annotated if len(told[1]) < LONG), ANNOTATED):
-        keep(c, data)
+    sample(2029, 3000, ANNOTATED)
     tell(plant.OF_COMMENTS)
+    # calls by mark, and random runs in both modes and in modes that there are not
+    for c, data, _ in settled(judge, generate.calls()):
+        keep(c, data)
+    sample(2030, 3000, MODES)
+    tell(plant.OF_MODES)
     for number in NUMBERS:
         if numbers.get(number, 0) < OFTEN:
             sys.exit("lists/make.py: number %d is met %d times" % (number, numbers.get(number, 0)))

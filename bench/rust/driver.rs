@@ -21,6 +21,7 @@ extern "C" {
         input: *const u64, input_len: usize,
         output: *mut u64, output_len: usize,
         budget: u32,
+        mode: u32,
         answer: *mut u64, answer_len: usize,
     ) -> usize;
     fn feltcairn_read(bytes: *const u8, bytes_len: usize, answer: *mut u64, answer_len: usize) -> usize;
@@ -44,6 +45,7 @@ struct Case {
     patch: Vec<u8>,
     cells: usize,
     room: usize,
+    mode: u32,
     inputs: Vec<u64>,
 }
 
@@ -53,9 +55,9 @@ fn cases(bytes: &[u8]) -> Vec<Case> {
     while r.at < bytes.len() {
         let name = String::from_utf8(r.counted().to_vec()).unwrap();
         let patch = r.counted().to_vec();
-        let (cells, room) = (r.u32(), r.u32());
+        let (cells, room, mode) = (r.u32(), r.u32(), r.u32() as u32);
         let inputs = (0..r.u32()).map(|_| r.u64()).collect();
-        found.push(Case { name, patch, cells, room, inputs });
+        found.push(Case { name, patch, cells, room, mode, inputs });
     }
     found
 }
@@ -91,6 +93,7 @@ impl Lent {
                 c.inputs.as_ptr(), c.inputs.len(),
                 self.output.as_mut_ptr(), self.output.len(),
                 budget,
+                c.mode,
                 self.answer.as_mut_ptr(), self.answer.len(),
             )
         }

@@ -1,13 +1,14 @@
 //! The judge: reads a list of cases (docs/REPLAY.md) on standard input, runs the Rust on each, and writes one line for each:
 //! sort, expected number, verdict, kind of the refused op (or -), how many NaNs were brought to the fixed bits, 1 where the Rust's
-//! panic names the lane that the answer gives, else 0, and how many steps over comments were not counted.
+//! panic names the lane that the answer gives, else 0, how many steps over comments were not counted, and how a run by mark was put to
+//! the Rust: 0 where it was not or the run is in the Rust's own mode, 1 as it is, 2 with its table taken away at a Call.
 //!
 //! Verdicts: `agree`, `differ` with what differs after it, and, where the expected answer is a refusal at a step, what the Rust
 //! does at that op after agreeing on every step before: `went` on, `err`, `panic`, `hang`, `big` (more room than the judge has).
 //! `port` is an answer that only the port gives (files, 37, 40, the check); `utf8` and `dirty` are cases outside the domain.
 //!
 //! With --raw nothing is looked at before a step or changed after it: a hang is a hang, a NaN has the processor's bits, a comment is
-//! a step.
+//! a step, a Call looks in the table.
 
 mod patch;
 mod side_effects;
@@ -35,10 +36,11 @@ struct Machine {
     written: usize,
     calls: Vec<usize>,
     refs: Vec<usize>,
+    mode: usize,
 }
 
 fn machine(r: &mut Reader) -> Machine {
-    let n: Vec<usize> = (0..12).map(|_| r.u32()).collect();
+    let n: Vec<usize> = (0..13).map(|_| r.u32()).collect();
     let calls = (0..n[10].min(256)).map(|_| r.u32()).collect();
     let refs = (0..n[11].min(256)).map(|_| r.u32()).collect();
     Machine {
@@ -54,6 +56,7 @@ fn machine(r: &mut Reader) -> Machine {
         written: n[9],
         calls,
         refs,
+        mode: n[12],
     }
 }
 
@@ -76,8 +79,8 @@ fn has_partner(kinds: &[u16], i: usize, at_else: bool) -> bool {
 
 type Vm = StandardInterpreter<TestingDevice>;
 
-/// Number, verdict, kind; then NaNs, whether the lane was named, and comments.
-type Verdict = (usize, String, String, [usize; 3]);
+/// Number, verdict, kind; then NaNs, whether the lane was named, comments, and how a run by mark was put.
+type Verdict = (usize, String, String, [usize; 4]);
 
 /// What is noted of the steps of a run.
 struct Seen {
@@ -85,6 +88,8 @@ struct Seen {
     nans: usize,
     /// comments that were stepped over
     comments: usize,
+    /// of a run by mark 1, or 2 where the table was taken away; else 0
+    by_mark: usize,
     /// the length and the index that the last panic names, if it was at an index
     index: Option<(usize, usize)>,
 }
@@ -93,6 +98,15 @@ struct Seen {
 fn index_named(words: &str) -> Option<(usize, usize)> {
     let (len, index) = words.strip_prefix("index out of bounds: the len is ")?.split_once(" but the index is ")?;
     Some((len.parse().ok()?, index.parse().ok()?))
+}
+
+/// A Call by mark (02, ask 4) of which the table's entry is another mark: the table, taken away. Without it the Rust counts the marks itself.
+fn table_taken(vm: &mut Vm, kinds: &[u16]) -> Option<Vec<usize>> {
+    let p = vm.parts();
+    let k = *p.register.first()? as usize;
+    let entry = *p.functions.get(k)?;
+    let is_mark = kinds[entry] == 2 && kinds[..entry].iter().filter(|kind| **kind == 2).count() == k;
+    (kinds[*p.i] == 3 && !is_mark).then(|| std::mem::take(p.functions))
 }
 
 /// One step, looked at first unless raw: a search without an end and a tape beyond the judge's room are not tried.
@@ -123,7 +137,18 @@ fn step(vm: &mut Vm, code: &StandardProgram, kinds: &[u16], raw: bool, seen: &mu
             return "big";
         }
     }
-    match catch_unwind(AssertUnwindSafe(|| vm.one_step(code))) {
+    let taken = if seen.by_mark != 0 && !raw { table_taken(vm, kinds) } else { None };
+    let went = catch_unwind(AssertUnwindSafe(|| vm.one_step(code)));
+    if let Some(mut table) = taken {
+        // back, with what the Rust has entered: in order, once
+        seen.by_mark = 2;
+        let functions = vm.parts().functions;
+        table.append(functions);
+        table.sort();
+        table.dedup();
+        *functions = table;
+    }
+    match went {
         Err(told) => {
             seen.index = told.downcast_ref::<String>().and_then(|words| index_named(words));
             return "panic";
@@ -190,7 +215,14 @@ fn run(r: &mut Reader, fresh: bool, one: bool, raw: bool) -> Verdict {
     let table = r.slice();
     let channel = r.slice();
     let outputs = r.slice();
-    let start = if fresh { None } else { Some(machine(r)) };
+    // a fresh run is handed its call mode, a state has its own
+    let (start, mode) = if fresh {
+        (None, r.u32())
+    } else {
+        let s = machine(r);
+        let mode = s.mode;
+        (Some(s), mode)
+    };
     let number = r.u32();
     let steps = r.u32();
     let place = r.u32();
@@ -202,23 +234,23 @@ fn run(r: &mut Reader, fresh: bool, one: bool, raw: bool) -> Verdict {
     let channel2 = r.sparse(channel.len());
     let outputs2 = r.sparse(outputs.len());
     assert!(!one || budget == 1 && steps < 2 && number != 50, "more than one step");
-    let mut seen = Seen { nans: 0, comments: 0, index: None };
+    let mut seen = Seen { nans: 0, comments: 0, by_mark: mode, index: None };
     let no_kind = "-".to_string();
     if (1..10).contains(&number) || number == 37 {
-        return (number, "port".into(), no_kind, [0; 3]);
+        return (number, "port".into(), no_kind, [0; 4]);
     }
     let Some((code, kinds)) = ops(patch) else {
-        return (number, "utf8".into(), no_kind, [0; 3]);
+        return (number, "utf8".into(), no_kind, [0; 4]);
     };
     let code = StandardProgram(code);
     let mut vm = StandardInterpreter::new(TestingDevice::new_raw(inputs.clone()));
     let mut written = 0;
     if let Some(s) = start {
         if tape.iter().skip(s.counted).any(|c| *c != 0) {
-            return (number, "dirty".into(), no_kind, [0; 3]);
+            return (number, "dirty".into(), no_kind, [0; 4]);
         }
         if s.counted > ROOM {
-            return (number, "big".into(), no_kind, [0; 3]);
+            return (number, "big".into(), no_kind, [0; 4]);
         }
         written = s.written;
         let p = vm.parts();
@@ -240,7 +272,10 @@ fn run(r: &mut Reader, fresh: bool, one: bool, raw: bool) -> Verdict {
         let p = vm.parts();
         *p.done || *p.i >= kinds.len()
     };
-    let differ = |what: String| (number, format!("differ:{what}"), "-".to_string(), [0; 3]);
+    let differ = |what: String| (number, format!("differ:{what}"), "-".to_string(), [0; 4]);
+    if mode > 1 || m.mode != mode {
+        return differ(format!("mode:{mode}"));
+    }
     let mut made = 0;
     while !over(&mut vm) {
         // 02, ask 8: the Rust's step over a comment is not counted, and is made before each test
@@ -251,7 +286,7 @@ fn run(r: &mut Reader, fresh: bool, one: bool, raw: bool) -> Verdict {
         match step(&mut vm, &code, &kinds, raw, &mut seen) {
             "went" if comment => seen.comments += 1,
             "went" => made += 1,
-            "big" => return (number, "big".into(), no_kind, [seen.nans, 0, seen.comments]),
+            "big" => return (number, "big".into(), no_kind, [seen.nans, 0, seen.comments, 0]),
             other => return differ(format!("{other}-at-step-{made}")),
         }
     }
@@ -308,10 +343,11 @@ fn run(r: &mut Reader, fresh: bool, one: bool, raw: bool) -> Verdict {
     if steps > budget || steps == budget && number != 0 && number != 50 {
         return differ("budget".into());
     }
+    let agree = (number, "agree".to_string(), no_kind, [seen.nans, 0, seen.comments, seen.by_mark]);
     match number {
-        0 if ended || one && steps == 1 => (number, "agree".into(), no_kind, [seen.nans, 0, seen.comments]),
+        0 if ended || one && steps == 1 => agree,
         0 => differ("not-over".into()),
-        50 if !ended && steps == budget => (number, "agree".into(), no_kind, [seen.nans, 0, seen.comments]),
+        50 if !ended && steps == budget => agree,
         50 => differ("over".into()),
         _ if ended => differ("over".into()),
         _ => {
@@ -326,7 +362,9 @@ fn run(r: &mut Reader, fresh: bool, one: bool, raw: bool) -> Verdict {
                     Err(what) => return differ(what),
                 }
             }
-            (number, what.into(), kind.to_string(), [seen.nans, named as usize, seen.comments])
+            // what is beyond the judge's room was not put
+            let by_mark = if what == "big" { 0 } else { seen.by_mark };
+            (number, what.into(), kind.to_string(), [seen.nans, named as usize, seen.comments, by_mark])
         }
     }
 }
@@ -358,7 +396,7 @@ fn join(r: &mut Reader) -> Verdict {
     } else {
         "utf8".into()
     };
-    (number, verdict, "-".into(), [0; 3])
+    (number, verdict, "-".into(), [0; 4])
 }
 
 fn flatten(r: &mut Reader) -> Verdict {
@@ -391,7 +429,7 @@ fn flatten(r: &mut Reader) -> Verdict {
                     let body = &functions[&n];
                     found.push([n as usize, first, body.len()]);
                     if flat.0[first..first + body.len()] != body[..] && !has_nan(body) {
-                        return (number, "differ:body".into(), kind, [0; 3]);
+                        return (number, "differ:body".into(), kind, [0; 4]);
                     }
                     first += body.len();
                 }
@@ -409,7 +447,7 @@ fn flatten(r: &mut Reader) -> Verdict {
     } else {
         "utf8".into()
     };
-    (number, verdict, kind, [0; 3])
+    (number, verdict, kind, [0; 4])
 }
 
 /// An op that holds a NaN is not equal to itself.
@@ -427,7 +465,7 @@ fn judge() {
         let case = list.counted();
         let mut r = Reader { bytes: case, at: 0 };
         let sort = r.u8();
-        let (number, verdict, kind, [nans, named, comments]) = match sort {
+        let (number, verdict, kind, [nans, named, comments, by_mark]) = match sort {
             0 => run(&mut r, false, false, raw),
             1 => run(&mut r, true, false, raw),
             2 => join(&mut r),
@@ -436,13 +474,13 @@ fn judge() {
                 r.counted();
                 let number = r.u32();
                 r.u32();
-                (number, "port".into(), "-".into(), [0; 3])
+                (number, "port".into(), "-".into(), [0; 4])
             }
             5 => run(&mut r, false, true, raw),
             s => panic!("no sort {s}"),
         };
         assert!(verdict.starts_with("differ") || r.at == case.len(), "a case of sort {sort} has bytes left over");
-        writeln!(out, "{sort} {number} {verdict} {kind} {nans} {named} {comments}").unwrap();
+        writeln!(out, "{sort} {number} {verdict} {kind} {nans} {named} {comments} {by_mark}").unwrap();
     }
 }
 

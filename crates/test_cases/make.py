@@ -5,7 +5,7 @@
     make.py --check     says which of them is not what the text gives, and writes nothing
 
 A case of the text: its name on a line of its own, then lines 'do:' (join or flatten, where it is no run), 'ops:' (separated by ';', as
-patches/make.py takes them), 'input:', 'cells:', 'room:', 'register:' and 'budget:' where they are not the usual ones, and 'gives:', the
+patches/make.py takes them), 'input:', 'cells:', 'room:', 'register:', 'budget:' and 'mode:' (the call mode) where they are not the usual ones, and 'gives:', the
 answer, written by hand from documents 01 and 02. An empty line ends a case; '#' starts a remark. Ops in braces in an answer stand for their bytes in hex.
 """
 import pathlib
@@ -20,7 +20,7 @@ import command  # noqa: E402
 from make import assemble_op  # noqa: E402
 
 SORTS = {"run": 0, "join": 1, "flatten": 2}
-USUAL = {"do": "run", "ops": "", "input": "", "cells": "4096", "room": "64", "register": "1024", "budget": "100000", "gives": ""}
+USUAL = {"do": "run", "ops": "", "input": "", "cells": "4096", "room": "64", "register": "1024", "budget": "100000", "mode": "0", "gives": ""}
 
 
 def patch(text):
@@ -46,7 +46,7 @@ def frame(name, said):
     file = patch(said["ops"])
     values = [int(v) % 2**64 for v in said["input"].split()]
     sizes = [int(said[key]) for key in ("cells", "room", "register")]
-    head = struct.pack("<BB5HI", SORTS[said["do"]], len(name), len(file), len(values), *sizes, int(said["budget"]))
+    head = struct.pack("<BB5HI", SORTS[said["do"]] + 16 * int(said["mode"]), len(name), len(file), len(values), *sizes, int(said["budget"]))
     return head + name.encode() + file + struct.pack("<%dQ" % len(values), *values)
 
 

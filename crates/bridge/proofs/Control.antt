@@ -1,6 +1,6 @@
 -- Function, Call, Return, While, If, Else and End are the model's, laid. Assumes nothing.
 use mathlib.Core.Path.{_≡_, _∙_, refl, ap, sym}
-use mathlib.Core.Bool.{Bool, true}
+use mathlib.Core.Bool.{Bool, true, _&&_}
 use mathlib.Core.List.{List, [], _∷_, _++_, map, reverse}
 use mathlib.Core.Option.{Option, none, some}
 use Prim.Native.Nat.{ℕ, suc, _+_, _-_, _^_, _≤_, _<_}
@@ -12,23 +12,24 @@ use lib.ListN
 use lib.Seq.{getD-take, length-take-le, take-append-seam}
 use borrow.Author.Tests.{leb-true, leb-false, le-leb, lt-leb, ltb-true, le-ltb, eqb-true, eqb-false}
 use Rattle.basics.specs.Limits.{mostOps}
-use Rattle.basics.proofs.Tests.{byCase}
+use Rattle.basics.proofs.Tests.{byCase, and-right}
 use Rattle.byte_fields.specs.Storage.{fill}
 use Rattle.ops.specs.Syntax.{Op, Bracket, isWhile}
 use Rattle.ops.specs.Syntax.Control.{function, call, ret, while, if, else, end}
 use Rattle.machine_model.specs.State.{State, Given, lane0, goTo, on, withTable, withCalls, halt}
 use Rattle.machine_model.specs.Scan.{opAt, brackets, functions, toEnd, toElse, toOpen, kth}
-use Rattle.machine_model.specs.Step.{turn, pick, bar, jump, found, back, again, enter}
+use Rattle.machine_model.specs.Step.{turn, pick, bar, jump, routine, found, back, again, enter}
 use Rattle.machine_model.specs.Step.Outcome.{next}
 use Rattle.machine_model.specs.Formed.{Formed, Marked}
 use Rattle.machine_model.specs.Limited.{count}
 use Rattle.machine_model.proofs.Scans.{end-below, else-below, function-below, kth-is}
 use Rattle.machine_model.proofs.Table.{each-enter, rising-enter, marks-few}
+use Rattle.machine_model.proofs.Meant.{in-at, entry-stays}
 use Rattle.machine_model.proofs.Stacks.{pushed, back-popped}
 use Rattle.machine_numbers.specs.Numbers as m
 use Rattle.partners.specs.Columns.{rowBracket, rowFunction, nowhere, place, endOf, elseOf, openOf, markOf}
 use Rattle.searches.specs.Found.{entry, enteredIn, countedIn}
-use Rattle.control_ops.specs.Control.{jumpOf, functionOf, callOf, retOf, whileOf, ifOf, elsesOf, endsOf, inTable}
+use Rattle.control_ops.specs.Control.{jumpOf, functionOf, asksTable, callOf, retOf, whileOf, ifOf, elsesOf, endsOf, inTable}
 use Rattle.machine_step.specs.Held.{Held, held, steering}
 use Rattle.bridge.specs.View.{view, laid}
 use Rattle.bridge.specs.Fits.{Counted}
@@ -188,9 +189,10 @@ module _ (g : Given) (ks : List ℕ) (r : Rows (g .ops) ks) (c : Held) (h : Coun
         rw (lt-leb (length ks) j l)
         (enter-went j j (d + 1) (lib.ListN.set (c .calls) d at) (view c .calls ++ (at ∷ [])) (k j refl) (laid-push (c .calls) d at y) (pushed (c .calls) d at y))
 
-    pub call-is : 0 < c .numbers .lanes → steering c (callOf ks (c .numbers) (c .calls) (c .register) (c .table)) ≡ laid c (turn g call (view c))
-    unfolding callOf markOf pick turn bar
-    call-is w =
+    pub call-is : g .mode ≡ c .numbers .mode → 0 < c .numbers .lanes
+        → steering c (callOf ks (c .numbers) (c .calls) (c .register) (c .table)) ≡ laid c (turn g call (view c))
+    unfolding callOf asksTable markOf pick turn routine bar
+    call-is mode w =
         let v = getD (c .register) 0 0 in let d = c .numbers .depth in let u = c .numbers .functions in let at = c .numbers .position in
         let z = h .call-room in let o = over-same c h in
         let l = getD-take (c .numbers .lanes) (c .register) 0 0 w in
@@ -201,9 +203,11 @@ module _ (g : Given) (ks : List ℕ) (r : Rows (g .ops) ks) (c : Held) (h : Coun
         (λ e. byCase (leb 256 d)
         (λ i. rw (l, e, q, i) refl)
         (λ i. let b = leb-false 256 d i in let y : d < length (c .calls) = omega arith in
-        byCase (ltb v u)
-        (λ j. rw (l, e, q, i, t, j, getD-take u (c .table) v 0 (ltb-true v u j))
+        byCase (eqb (c .numbers .mode) 0 && ltb v u)
+        (λ j. let k = ltb-true v u (and-right (eqb (c .numbers .mode) 0) _ j) in
+        let there = entry-stays (getD (view c .table) v 0) (view c .table) (f .rising) (in-at (view c .table) v (omega arith)) in
+        rw (mode, l, e, q, i, t, j, there, getD-take u (c .table) v 0 k)
         (meets c _ _ (over-calls c h _ _ _ _ _ _ (laid-push (c .calls) d at y) (o .table)) (rw (pushed (c .calls) d at y, add-one (getD (c .table) v 0)) refl)))
-        (λ j. rw (l, e, q, i, t, j)
+        (λ j. rw (mode, l, e, q, i, t, j)
         (found-by (kth 0 v (map rowFunction ks)) (λ j e. kth-is (g .ops) v j (rw (r .entered) e)) b
         ∙ ap (λ (bs : List Bool). laid c (found (view c) (kth 0 v bs))) (sym (r .entered))))))

@@ -29,7 +29,7 @@ use Rattle.machine_model.specs.Limited.{count, Limited}
 use Rattle.partners.specs.Columns.{rowBracket, rowFunction, Stored}
 use Rattle.machine_numbers.specs.Asks.{PayloadIn}
 use Rattle.machine_step.specs.Payloads.{PayloadsInBytes}
-use Rattle.bridge.specs.Decoded.{codeOf, givenOf}
+use Rattle.bridge.specs.Decoded.{codeOf, patchIn}
 use Rattle.bridge.specs.Run.{rowComment}
 use Rattle.bridge.proofs.Families.{Told, op-row}
 use Rattle.bridge.proofs.Control.{Rows}
@@ -69,9 +69,9 @@ module _ (s : List ℕ) where
   noted-are (x ∷ xs) e = ap₂ (λ (a : Bool) (l : List Bool). a ∷ l) (sym (told s x (e .0) .noted)) (noted-are xs (e .1))
 
   -- the rows that the machine reads are to its searches what the ops are
-  pub rows : (input : List ℕ) (room : ℕ) → Rows (givenOf s input room .ops) (codeOf s .rows)
-  unfolding codeOf givenOf
-  rows input room =
+  pub rows : Rows (patchIn s) (codeOf s .rows)
+  unfolding codeOf patchIn
+  rows =
       let xs = patchOf s .items in let e = items-are s in
       record {
         many = length-map xs (file.opAt s) ∙ sym (length-map xs rowIn);
@@ -82,9 +82,9 @@ module _ (s : List ℕ) where
       }
 
   -- and tell the same comments
-  pub comments-are : (input : List ℕ) (room : ℕ) → comments (givenOf s input room .ops) ≡ map rowComment (codeOf s .rows)
-  unfolding codeOf givenOf
-  comments-are input room = noted-are (patchOf s .items) (items-are s)
+  pub comments-are : comments (patchIn s) ≡ map rowComment (codeOf s .rows)
+  unfolding codeOf patchIn
+  comments-are = noted-are (patchOf s .items) (items-are s)
 
 -- ---- an array's entry is its item's
 
@@ -98,9 +98,9 @@ module _ (s : List ℕ) where
   unfolding codeOf
   many-rows = length-map (patchOf s .items) rowIn
 
-  pub op-is-item : (input : List ℕ) (room i : ℕ) → i < length (codeOf s .rows) → opAt (givenOf s input room .ops) i ≡ file.opAt s (itemOf s i)
-  unfolding givenOf
-  op-is-item input room i h = op-in (file.opAt s) (patchOf s .items) i (rw many-rows at h)
+  pub op-is-item : (i : ℕ) → i < length (codeOf s .rows) → opAt (patchIn s) i ≡ file.opAt s (itemOf s i)
+  unfolding patchIn
+  op-is-item i h = op-in (file.opAt s) (patchOf s .items) i (rw many-rows at h)
 
   pub kind-is : (i : ℕ) → getD (codeOf s .rows) i 0 ≡ itemOf s i .row
   unfolding codeOf
@@ -201,21 +201,20 @@ module _ (s : List ℕ) where
   marks-counted (x ∷ xs) = byCase (eqb (x .row) 2) (λ e. rw (e, marks-counted xs) (omega arith)) (λ e. rw (e, marks-counted xs) (omega arith))
 
   -- "256 Function marks"
-  pub few-entered : (input : List ℕ) (room : ℕ) → count (functions (givenOf s input room .ops)) ≤ 256
-  unfolding givenOf
-  few-entered input room = rw (entered-are s (patchOf s .items) (items-are s), marks-counted (patchOf s .items)) (few-marks s)
+  pub few-entered : count (functions (patchIn s)) ≤ 256
+  unfolding patchIn
+  few-entered = rw (entered-are s (patchOf s .items) (items-are s), marks-counted (patchOf s .items)) (few-marks s)
 
   module _ (b : Bytes s) where
     -- an op at any place: an item's, or beyond the last a comment
-    fits-at : (input : List ℕ) (room i : ℕ) → Fits (opAt (givenOf s input room .ops) i)
-    fits-at input room i =
+    fits-at : (i : ℕ) → Fits (opAt (patchIn s) i)
+    fits-at i =
         byCase (leb (length (codeOf s .rows)) i)
-        (λ e. let l : length (givenOf s input room .ops) ≤ i = omega (arith, leb-true (length (codeOf s .rows)) i e, rows s input room .many) in
-        subst Fits (sym (List·getD-eq-default (givenOf s input room .ops) (plain (comment [])) l)) (omega arith, tt))
+        (λ e. let l : length (patchIn s) ≤ i = omega (arith, leb-true (length (codeOf s .rows)) i e, rows s .many) in
+        subst Fits (sym (List·getD-eq-default (patchIn s) (plain (comment [])) l)) (omega arith, tt))
         (λ e. let l = leb-false (length (codeOf s .rows)) i e in
-        subst Fits (sym (op-is-item s input room i l)) (item-fits s (below-all s (b .at)) (itemOf s i) (is-item s i l)))
+        subst Fits (sym (op-is-item s i l)) (item-fits s (below-all s (b .at)) (itemOf s i) (is-item s i l)))
 
     -- the ops of a file are within the limits
-    pub limited : (input : List ℕ) (room : ℕ) → Limited (givenOf s input room .ops)
-    limited input room =
-        record { few-ops = omega (arith, rows s input room .many, many-rows s, few-items s); few-marks = few-entered input room; each = fits-at input room }
+    pub limited : Limited (patchIn s)
+    limited = record { few-ops = omega (arith, rows s .many, many-rows s, few-items s); few-marks = few-entered; each = fits-at }

@@ -51,7 +51,7 @@ module _ (g : Given) (c : Held) (h : Counted c) where
       let n = c .numbers .written in let l = c .output in let o = over-same c h in
       let e : length (take n l ++ vs) ≡ n + length vs = rw (length-append, length-take-le n l (h .written)) refl in
       meets c _ _
-      (record { calls = o .calls; refs = o .refs; register = o .register; table = o .table; output = laid-fill (take n l ++ vs) l (n + length vs) e b; channel = o .channel; head = o .head })
+      (record { calls = o .calls; refs = o .refs; register = o .register; table = o .table; output = laid-fill (take n l ++ vs) l (n + length vs) e b; channel = o .channel; head = o .head; mode = refl })
       (rw (take-at (take n l ++ vs) (drop (n + length vs) l) (n + length vs) e, add-one (c .numbers .position)) refl)
 
   -- values put: "all or none"
@@ -92,7 +92,7 @@ module _ (g : Given) (c : Held) (h : Counted c) where
   peek-went w k =
       let p = c .numbers in let o = over-same c h in let v = getD (c .channel) (p .first) 0 in
       meets c _ _
-      (record { calls = o .calls; refs = o .refs; register = laid-set (c .register) (p .lanes) 0 v w (h .lanes); table = o .table; output = o .output; channel = ring-same (c .channel) ((p .first + 1) % 256) (p .waiting - 1); head = omega arith })
+      (record { calls = o .calls; refs = o .refs; register = laid-set (c .register) (p .lanes) 0 v w (h .lanes); table = o .table; output = o .output; channel = ring-same (c .channel) ((p .first + 1) % 256) (p .waiting - 1); head = omega arith; mode = refl })
       (rw (take-set-lt (p .lanes) (c .register) 0 v w, add-one (c .numbers .position)) refl)
 
   no-values : c .numbers .waiting ≡ 0 → record { number = 33; lane = 0; held = c } ≡ laid c (peekAt (view c) (ring (c .channel) (c .numbers .first) (c .numbers .waiting)))
@@ -114,7 +114,7 @@ module _ (g : Given) (c : Held) (h : Counted c) where
   poke-went v k =
       let o = over-same c h in let l = c .channel in let f = c .numbers .first in let n = c .numbers .waiting in
       meets c _ _
-      (record { calls = o .calls; refs = o .refs; register = o .register; table = o .table; output = o .output; channel = rw (add-one n) (ring-laid l f n v k (h .ringed)); head = let b = h .first in omega arith })
+      (record { calls = o .calls; refs = o .refs; register = o .register; table = o .table; output = o .output; channel = rw (add-one n) (ring-laid l f n v k (h .ringed)); head = let b = h .first in omega arith; mode = refl })
       (rw (add-one n, ring-poke l f n v k (h .ringed), add-one (c .numbers .position)) refl)
 
   pub poke-is : 0 < c .numbers .lanes → telling c (d.inChannel (c .register) (c .output) (d.pokingOf (c .numbers) (c .register) (c .channel))) ≡ laid c (act g poke (view c))

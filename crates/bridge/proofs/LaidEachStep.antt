@@ -17,7 +17,7 @@ use Rattle.tape_ops.specs.Tape.{setOf, tapeOf}
 use Rattle.machine_step.specs.Held.{Held, held}
 use Rattle.machine_step.specs.Step.{opOf, stepOf}
 use Rattle.bridge.specs.View.{view, lay}
-use Rattle.bridge.specs.Decoded.{codeOf, givenOf}
+use Rattle.bridge.specs.Decoded.{codeOf, givenTo, patchIn}
 use Rattle.bridge.specs.Run.{runOf}
 
 -- set [1, 2], set [3], over a register that holds 9 9 9
@@ -27,12 +27,12 @@ two =
     ∷ 10 ∷ 0 ∷ 0 ∷ 0 ∷ 1 ∷ 0 ∷ 3 ∷ 0 ∷ 0 ∷ 0 ∷ 0 ∷ 0 ∷ 0 ∷ 0 ∷ []
 
 start : Held
-start = held (record { depth = 0; saved = 0; pointer = 0; position = 0; length = 0; lanes = 0; functions = 0; first = 0; waiting = 0; taken = 0; written = 0; halted = false }) [] [] (9 ∷ 9 ∷ 9 ∷ []) [] [] [] []
+start = held (record { depth = 0; saved = 0; pointer = 0; position = 0; length = 0; lanes = 0; functions = 0; first = 0; waiting = 0; taken = 0; written = 0; halted = false; mode = 0 }) [] [] (9 ∷ 9 ∷ 9 ∷ []) [] [] [] []
 
 by-steps : runOf 5 0 (codeOf two) [] start .held .register ≡ 3 ∷ 2 ∷ 9 ∷ []
 unfolding two start codeOf patchOf recordAt bodyAt lengthOk countOf modeOf kindAt indexOf runNeed markOf runOf stepOf opOf familyOf tapeOf setOf pick valuesAt fill
 by-steps = refl
 
-at-once : lay (run (givenOf two [] 0) 5 (view start) .state) start .register ≡ 3 ∷ 9 ∷ 9 ∷ []
-unfolding two start givenOf patchOf recordAt bodyAt lengthOk countOf modeOf kindAt indexOf markOf file.opAt rowAt rows lay run valuesAt fill ring fillRing
+at-once : lay (run (givenTo two [] start) 5 (view start) .state) start .register ≡ 3 ∷ 9 ∷ 9 ∷ []
+unfolding two start patchIn patchOf recordAt bodyAt lengthOk countOf modeOf kindAt indexOf markOf file.opAt rowAt rows lay run valuesAt fill ring fillRing
 at-once = refl

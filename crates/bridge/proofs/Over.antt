@@ -26,6 +26,7 @@ pub record Over (c d : Held) : Type 0 where
   pub output : Laid (d .numbers .written) (c .output) (d .output)
   pub channel : fillRing (c .channel) (d .numbers .first) (ring (d .channel) (d .numbers .first) (d .numbers .waiting)) ≡ d .channel
   pub head : headOf (c .numbers) (d .numbers .waiting) ≡ d .numbers .first
+  pub mode : c .numbers .mode ≡ d .numbers .mode
 
 -- what agrees part by part is the same
 alike : {p q : Numbers} {cs cs′ rs rs′ g g′ t t′ ts ts′ ch ch′ o o′ : List ℕ} → p ≡ q → cs ≡ cs′ → rs ≡ rs′ → g ≡ g′ → t ≡ t′ → ts ≡ ts′ → ch ≡ ch′ → o ≡ o′
@@ -37,7 +38,7 @@ unfolding lay
 over-lay c d o =
     let w = length-ring (d .channel) (d .numbers .first) (d .numbers .waiting) in
     let f = ap (λ (n : ℕ). headOf (c .numbers) n) w ∙ o .head in
-    alike (rw (w, o .head, o .calls .count, o .refs .count, o .register .count, o .table .count, o .output .count) refl)
+    alike (rw (w, o .head, o .mode, o .calls .count, o .refs .count, o .register .count, o .table .count, o .output .count) refl)
     (o .calls .whole)
     (o .refs .whole)
     (o .register .whole)
@@ -65,22 +66,23 @@ module _ (c : Held) (h : Counted c) where
         output = laid-same _ _ (h .written);
         channel = ring-same _ _ _;
         head = let f = h .first in omega arith;
+        mode = refl;
       }
 
   -- the numbers, the tape and the register changed
   pub over-reg : (at pt len n k : ℕ) (b : Bool) (r t : List ℕ) → Laid n (c .register) r
       → Over c
       (held
-      (record { depth = c .numbers .depth; saved = c .numbers .saved; pointer = pt; position = at; length = len; lanes = n; functions = c .numbers .functions; first = c .numbers .first; waiting = c .numbers .waiting; taken = k; written = c .numbers .written; halted = b })
+      (record { depth = c .numbers .depth; saved = c .numbers .saved; pointer = pt; position = at; length = len; lanes = n; functions = c .numbers .functions; first = c .numbers .first; waiting = c .numbers .waiting; taken = k; written = c .numbers .written; halted = b; mode = c .numbers .mode })
       (c .calls) (c .refs) r t (c .table) (c .channel) (c .output))
   over-reg at pt len n k b r t l =
-      let o = over-same in record { calls = o .calls; refs = o .refs; register = l; table = o .table; output = o .output; channel = o .channel; head = o .head }
+      let o = over-same in record { calls = o .calls; refs = o .refs; register = l; table = o .table; output = o .output; channel = o .channel; head = o .head; mode = refl }
 
   -- the numbers and the tape
   pub over-num : (at pt len k : ℕ) (b : Bool) (t : List ℕ)
       → Over c
       (held
-      (record { depth = c .numbers .depth; saved = c .numbers .saved; pointer = pt; position = at; length = len; lanes = c .numbers .lanes; functions = c .numbers .functions; first = c .numbers .first; waiting = c .numbers .waiting; taken = k; written = c .numbers .written; halted = b })
+      (record { depth = c .numbers .depth; saved = c .numbers .saved; pointer = pt; position = at; length = len; lanes = c .numbers .lanes; functions = c .numbers .functions; first = c .numbers .first; waiting = c .numbers .waiting; taken = k; written = c .numbers .written; halted = b; mode = c .numbers .mode })
       (c .calls) (c .refs) (c .register) t (c .table) (c .channel) (c .output))
   over-num at pt len k b t = over-reg at pt len (c .numbers .lanes) k b (c .register) t (over-same .register)
 
@@ -88,19 +90,19 @@ module _ (c : Held) (h : Counted c) where
   pub over-calls : (at d u : ℕ) (b : Bool) (cs ts : List ℕ) → Laid d (c .calls) cs → Laid u (c .table) ts
       → Over c
       (held
-      (record { depth = d; saved = c .numbers .saved; pointer = c .numbers .pointer; position = at; length = c .numbers .length; lanes = c .numbers .lanes; functions = u; first = c .numbers .first; waiting = c .numbers .waiting; taken = c .numbers .taken; written = c .numbers .written; halted = b })
+      (record { depth = d; saved = c .numbers .saved; pointer = c .numbers .pointer; position = at; length = c .numbers .length; lanes = c .numbers .lanes; functions = u; first = c .numbers .first; waiting = c .numbers .waiting; taken = c .numbers .taken; written = c .numbers .written; halted = b; mode = c .numbers .mode })
       cs (c .refs) (c .register) (c .tape) ts (c .channel) (c .output))
   over-calls at d u b cs ts l m =
-      let o = over-same in record { calls = l; refs = o .refs; register = o .register; table = m; output = o .output; channel = o .channel; head = o .head }
+      let o = over-same in record { calls = l; refs = o .refs; register = o .register; table = m; output = o .output; channel = o .channel; head = o .head; mode = refl }
 
   -- the numbers and the saved pointers
   pub over-refs : (at pt len d : ℕ) (rs : List ℕ) → Laid d (c .refs) rs
       → Over c
       (held
-      (record { depth = c .numbers .depth; saved = d; pointer = pt; position = at; length = len; lanes = c .numbers .lanes; functions = c .numbers .functions; first = c .numbers .first; waiting = c .numbers .waiting; taken = c .numbers .taken; written = c .numbers .written; halted = c .numbers .halted })
+      (record { depth = c .numbers .depth; saved = d; pointer = pt; position = at; length = len; lanes = c .numbers .lanes; functions = c .numbers .functions; first = c .numbers .first; waiting = c .numbers .waiting; taken = c .numbers .taken; written = c .numbers .written; halted = c .numbers .halted; mode = c .numbers .mode })
       (c .calls) rs (c .register) (c .tape) (c .table) (c .channel) (c .output))
   over-refs at pt len d rs l =
-      let o = over-same in record { calls = o .calls; refs = l; register = o .register; table = o .table; output = o .output; channel = o .channel; head = o .head }
+      let o = over-same in record { calls = o .calls; refs = l; register = o .register; table = o .table; output = o .output; channel = o .channel; head = o .head; mode = refl }
 
 -- what is laid is seen: of the counts only the ring's is asked
 pub view-lay : (s : State) (c : Held) → length (s .channel) ≤ 256 → 256 ≤ length (c .channel) → view (lay s c) ≡ s

@@ -1,21 +1,26 @@
--- The stored places of a patch are those that the model's searches find, for every list of ops, those that fail the check too. Assumes
--- nothing.
+-- The stored places of a patch are those that the model's searches find, for every list of ops, those that fail the check too; and a function table has no
+-- more entries than there are marks. Assumes nothing.
 use mathlib.Core.Path.{_≡_, _∙_, refl, ap, sym}
+use mathlib.Core.Bool.{Bool}
 use mathlib.Core.List.{List, map}
-use Prim.Native.Nat.{ℕ, suc, _+_, _<_}
+use Prim.Native.Nat.{ℕ, suc, _+_, _≤_, _<_}
 use native.Mathlib.Omega.{arith}
 use native.Mathlib.Numerals.{add-one}
-use lib.ListN.{length, getD, drop, List·getD-map}
+use lib.ListN.{length, getD, take, drop, List·getD-map}
+use lib.Seq.{length-take-le}
 use Rattle.basics.specs.Pick.{pick}
 use Rattle.kind_table.specs.Rows as row
 use Rattle.ops.specs.Syntax.{Op, Bracket, bracket}
 use Rattle.ops.specs.Syntax.Bracket.{flat}
-use Rattle.machine_model.specs.Scan.{opAt, brackets, functions, toEnd, toElse, toOpen, kth}
+use Rattle.machine_model.specs.Scan.{opAt, brackets, functions, toEnd, toElse, toOpen, kth, placesFrom}
 use Rattle.machine_model.proofs.Scans.{brackets-at}
+use Rattle.machine_model.proofs.Table.{marks-few}
 use Rattle.partners.specs.Columns.{rowBracket, rowFunction, place, partnerBy, partnerAt, partnersOf, turnsOf, functionsOf, firstOf, nthOf, elseOf, markOf}
 use Rattle.partners.proofs.Stored.{partner-at, if-jump}
-use Rattle.partners.proofs.Marks.{nth-mark}
-use Rattle.bridge.specs.Decoded.{codeOf, givenOf}
+use Rattle.partners.proofs.Marks.{nth-mark, count-places}
+use Rattle.machine_step.specs.Held.{Held}
+use Rattle.bridge.specs.Decoded.{codeOf, patchIn, givenTo}
+use Rattle.bridge.specs.Fits.{Fits}
 use Rattle.bridge.proofs.Control.{Rows}
 use Rattle.bridge.proofs.Decoded.{rows}
 
@@ -42,6 +47,19 @@ partners-are-the-searches os ks r = record {
 }
 
 -- so it is of every file
-pub stored-as-searched : (s input : List ℕ) (room : ℕ) → Searched (givenOf s input room .ops) (codeOf s .rows) (codeOf s .partners) (codeOf s .turns) (codeOf s .marks)
+pub stored-as-searched : (s : List ℕ) → Searched (patchIn s) (codeOf s .rows) (codeOf s .partners) (codeOf s .turns) (codeOf s .marks)
 unfolding codeOf
-stored-as-searched s input room = partners-are-the-searches (givenOf s input room .ops) (codeOf s .rows) (rows s input room)
+stored-as-searched s = partners-are-the-searches (patchIn s) (codeOf s .rows) (rows s)
+
+-- the table has no more entries than there are marks
+pub few-entries : (s input : List ℕ) (c : Held) → Fits s input c → c .numbers .functions ≤ length (functionsOf (codeOf s .rows))
+unfolding functionsOf
+few-entries s input c h =
+    let ts = take (c .numbers .functions) (c .table) in
+    omega (
+      arith,
+      marks-few (givenTo s input c) ts (h .formed .rising) (h .formed .marked),
+      length-take-le (c .numbers .functions) (c .table) (h .counted .functions),
+      count-places 0 (functions (patchIn s)),
+      ap (λ (bs : List Bool). length (placesFrom 0 bs)) (rows s .entered),
+    )

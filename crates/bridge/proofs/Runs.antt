@@ -10,7 +10,7 @@ use borrow.Author.Tests.{leb-false}
 use Rattle.basics.specs.Pick.{pick}
 use Rattle.basics.proofs.Tests.{byCase, or-left, or-right}
 use Rattle.answers.specs.declared.run.Answer.the-variants.{Finished}
-use Rattle.machine_model.specs.State.{State, Given, fresh}
+use Rattle.machine_model.specs.State.{State, Given, given, byMark, fresh}
 use Rattle.machine_model.specs.Step.{Outcome, step}
 use Rattle.machine_model.specs.Step.Outcome.{finished, refused, next}
 use Rattle.machine_model.specs.Passed.{past, passed}
@@ -22,7 +22,7 @@ use Rattle.machine_model.proofs.Kept.{step-formed, fresh-formed}
 use Rattle.machine_step.specs.Held.{Held}
 use Rattle.machine_step.specs.Step.{stepOf}
 use Rattle.bridge.specs.View.{view, lay, laid}
-use Rattle.bridge.specs.Decoded.{codeOf, givenOf, givenTo}
+use Rattle.bridge.specs.Decoded.{codeOf, patchIn, givenTo}
 use Rattle.bridge.specs.Fits.{Fits}
 use Rattle.bridge.specs.Run.{ran, standing, passedIn, driveLaid, runLaid, seen, isOver, pastOf, pastIn, driveOf, runOf}
 use Rattle.bridge.proofs.Over.{view-lay, lay-counted, lay-room}
@@ -39,23 +39,27 @@ unfolding passedIn passed
 seen-passed g c = refl
 
 -- the code's search is the model's
-pub past-is : (s input : List ℕ) (room : ℕ) (c : Held) → pastIn (codeOf s) c ≡ passedIn (givenOf s input room) c
+pub past-is : (s : List ℕ) (mode : ℕ) (input : List ℕ) (room : ℕ) (c : Held) → pastIn (codeOf s) c ≡ passedIn (given (patchIn s) mode input room) c
 unfolding pastIn pastOf passedIn passed
-past-is s input room c =
+past-is s mode input room c =
     let at = c .numbers .position in
-    ap (λ (l : List Bool). standing c (cond (c .numbers .halted) at (past at (drop at l)))) (sym (comments-are s input room))
+    ap (λ (l : List Bool). standing c (cond (c .numbers .halted) at (past at (drop at l)))) (sym (comments-are s))
 
 -- ---- what a step hands to the next
 
 module _ (s input : List ℕ) where
+  -- what is laid is given the same
+  pub lay-given : (t : State) (c : Held) → length (t .outs) ≤ length (c .output) → givenTo s input (lay t c) ≡ givenTo s input c
+  unfolding lay
+  lay-given t c h = ap (λ (r : ℕ). given (patchIn s) (c .numbers .mode) input r) (lay-room t c h)
+
   -- a state of the patch, laid over what is as large as its limits
   lay-over : (t : State) (c : Held) → 1024 ≤ length (c .register) → 256 ≤ length (c .table) → 256 ≤ length (c .channel) → length (c .calls) ≡ 256 → length (c .refs) ≡ 256
       → Formed (givenTo s input c) t → Fits s input (lay t c)
-  unfolding givenOf
   lay-over t c w u r kc kr f =
       record {
         counted = lay-counted t c (f .few-calls) (f .few-refs) (f .few-sent) (f .fits) w u r kc kr;
-        formed = rw (lay-room t c (f .fits), view-lay t c (f .few-sent) r) f;
+        formed = rw (lay-given t c (f .fits), view-lay t c (f .few-sent) r) f;
       }
 
   -- a state of the patch laid over what fits it fits it
@@ -67,7 +71,7 @@ module _ (s input : List ℕ) where
   standing-fits i c h l =
       let k = h .counted in
       let f = h .formed in
-      let w : i ≤ length (givenTo s input c .ops) = omega (arith, rows s input (length (c .output)) .many) in
+      let w : i ≤ length (givenTo s input c .ops) = omega (arith, rows s .many) in
       record { counted = search; formed = search }
 
   -- and so with its comments passed
@@ -75,97 +79,93 @@ module _ (s input : List ℕ) where
   unfolding passedIn
   passed-fits c h =
       let g = givenTo s input c in
-      standing-fits _ c h (omega (arith, passed-within g (view c) (h .formed .within), rows s input (length (c .output)) .many))
+      standing-fits _ c h (omega (arith, passed-within g (view c) (h .formed .within), rows s .many))
 
   module _ (b : Bytes s) where
     -- and so does the next state of a step
     pub step-fits : (t : State) (c : Held) → Fits s input c → step (givenTo s input c) (view c) ≡ next t → Fits s input (lay t c)
-    step-fits t c h e = lay-fits t c h (step-formed (givenTo s input c) (limited s b input (length (c .output))) (view c) t (h .formed) e)
+    step-fits t c h e = lay-fits t c h (step-formed (givenTo s input c) (limited s b) (view c) t (h .formed) e)
 
-    module _ (room : ℕ) where
-      abbrev given : Given
-      given = givenOf s input room
+    module _ (mode room : ℕ) where
+      abbrev g : Given
+      g = given (patchIn s) mode input room
 
-      -- what is held fits, and its output has the room that the run is given
+      -- what is held fits, and a run of it is given this mode and this room
       record Sound (c : Held) : Type 0 where
         fits : Fits s input c
-        roomy : length (c .output) ≡ room
+        same : givenTo s input c ≡ g
 
-      formed : (c : Held) → Sound c → Formed given (view c)
-      formed c h = subst (λ (r : ℕ). Formed (givenOf s input r) (view c)) (h .roomy) (h .fits .formed)
+      formed : (c : Held) → Sound c → Formed g (view c)
+      formed c h = subst (λ (x : Given). Formed x (view c)) (h .same) (h .fits .formed)
 
-      next-formed : (c : Held) (t : State) → Sound c → step given (view c) ≡ next t → Formed given t
-      next-formed c t h e = step-formed given (limited s b input room) (view c) t (formed c h) e
+      next-formed : (c : Held) (t : State) → Sound c → step g (view c) ≡ next t → Formed g t
+      next-formed c t h e = step-formed g (limited s b) (view c) t (formed c h) e
 
-      sound-next : (c : Held) (t : State) → Sound c → step given (view c) ≡ next t → Sound (lay t c)
-      unfolding givenOf
+      sound-next : (c : Held) (t : State) → Sound c → step g (view c) ≡ next t → Sound (lay t c)
       sound-next c t h e =
-          let f = next-formed c t h e in
-          record {
-            fits = lay-fits t c (h .fits) (subst (λ (r : ℕ). Formed (givenOf s input r) t) (sym (h .roomy)) f);
-            roomy = lay-room t c (rw (h .roomy) (f .fits)) ∙ h .roomy;
-          }
+          let f = subst (λ (x : Given). Formed x t) (sym (h .same)) (next-formed c t h e) in
+          record { fits = lay-fits t c (h .fits) f; same = lay-given t c (f .fits) ∙ h .same }
 
-      seen-next : (c : Held) (t : State) → Sound c → step given (view c) ≡ next t → view (passedIn given (lay t c)) ≡ passed given t
-      seen-next c t h e = seen-passed given (lay t c) ∙ ap (passed given) (view-lay t c (next-formed c t h e .few-sent) (h .fits .counted .ringed))
+      seen-next : (c : Held) (t : State) → Sound c → step g (view c) ≡ next t → view (passedIn g (lay t c)) ≡ passed g t
+      seen-next c t h e = seen-passed g (lay t c) ∙ ap (passed g) (view-lay t c (next-formed c t h e .few-sent) (h .fits .counted .ringed))
 
-      sound-passed : (c : Held) → Sound c → Sound (passedIn given c)
+      sound-passed : (c : Held) → Sound c → Sound (passedIn g c)
       unfolding passedIn
       sound-passed c h =
-          record { fits = subst (λ (r : ℕ). Fits s input (passedIn (givenOf s input r) c)) (h .roomy) (passed-fits c (h .fits)); roomy = h .roomy }
+          record { fits = subst (λ (x : Given). Fits s input (passedIn x c)) (h .same) (passed-fits c (h .fits)); same = h .same }
 
       -- ---- the step's first test
 
       over : Held → Bool
       over c = isOver (codeOf s) c
 
-      over-is : (c : Held) → (c .numbers .halted || leb (length (given .ops)) (c .numbers .position)) ≡ over c
+      over-is : (c : Held) → (c .numbers .halted || leb (length (g .ops)) (c .numbers .position)) ≡ over c
       unfolding over
-      over-is c = ap (λ (n : ℕ). c .numbers .halted || leb n (c .numbers .position)) (rows s input room .many)
+      over-is c = ap (λ (n : ℕ). c .numbers .halted || leb n (c .numbers .position)) (rows s .many)
 
       code-over : (n k : ℕ) (c : Held) → over c ≡ true → driveOf n k (codeOf s) input c ≡ ran Finished k c
       unfolding driveOf pick over
       code-over zero k c e = rw e refl
       code-over (suc n) k c e = rw e refl
 
-      in-over : (n k : ℕ) (c : Held) (o : Outcome) → o ≡ finished → driveLaid given n k c o ≡ ran Finished k c
+      in-over : (n k : ℕ) (c : Held) (o : Outcome) → o ≡ finished → driveLaid g n k c o ≡ ran Finished k c
       unfolding driveLaid
       in-over zero k c o e = rw e refl
       in-over (suc n) k c o e = rw e refl
 
-      spent : (k : ℕ) (c : Held) → over c ≡ false → (o : Outcome) → Real o → driveOf 0 k (codeOf s) input c ≡ driveLaid given 0 k c o
+      spent : (k : ℕ) (c : Held) → over c ≡ false → (o : Outcome) → Real o → driveOf 0 k (codeOf s) input c ≡ driveLaid g 0 k c o
       unfolding driveOf pick driveLaid over
       spent k c e _ (goes t) = rw e refl
       spent k c e _ (stops n l z) = rw e refl
 
       turns : (n k : ℕ) (c : Held) → over c ≡ false
-          → ((t : State) → step given (view c) ≡ next t
-          → driveOf n (suc k) (codeOf s) input (pastIn (codeOf s) (lay t c)) ≡ driveLaid given n (suc k) (passedIn given (lay t c)) (step given (view (passedIn given (lay t c)))))
-          → (o : Outcome) → Real o → step given (view c) ≡ o → stepOf (codeOf s) input c ≡ laid c o
-          → driveOf (suc n) k (codeOf s) input c ≡ driveLaid given (suc n) k c o
+          → ((t : State) → step g (view c) ≡ next t
+          → driveOf n (suc k) (codeOf s) input (pastIn (codeOf s) (lay t c)) ≡ driveLaid g n (suc k) (passedIn g (lay t c)) (step g (view (passedIn g (lay t c)))))
+          → (o : Outcome) → Real o → step g (view c) ≡ o → stepOf (codeOf s) input c ≡ laid c o
+          → driveOf (suc n) k (codeOf s) input c ≡ driveLaid g (suc n) k c o
       unfolding driveOf pick driveLaid over
       turns n k c e less _ (goes t) q r = rw (e, r) (less t q)
       turns n k c e less _ (stops m l z) q r = rw (e, r, z) refl
 
-      ended : (c : Held) → over c ≡ true → step given (view c) ≡ finished
-      ended c e = step-over given (view c) (over-is c ∙ e)
+      ended : (c : Held) → over c ≡ true → step g (view c) ≡ finished
+      ended c e = step-over g (view c) (over-is c ∙ e)
 
-      real : (c : Held) → over c ≡ false → Real (step given (view c))
-      real c e = step-real given (view c) (over-is c ∙ e)
+      real : (c : Held) → over c ≡ false → Real (step g (view c))
+      real c e = step-real g (view c) (over-is c ∙ e)
 
-      stepped : (c : Held) → Sound c → over c ≡ false → stepOf (codeOf s) input c ≡ laid c (step given (view c))
+      stepped : (c : Held) → Sound c → over c ≡ false → stepOf (codeOf s) input c ≡ laid c (step g (view c))
       unfolding over
       stepped c h e =
           step-is s input c (h .fits) (leb-false (length (codeOf s .rows)) (c .numbers .position) (or-right (c .numbers .halted) _ e)) (or-left (c .numbers .halted) _ e)
-          ∙ ap (λ (r : ℕ). laid c (step (givenOf s input r) (view c))) (h .roomy)
+          ∙ ap (λ (x : Given). laid c (step x (view c))) (h .same)
 
       -- ---- the run
 
-      passes : (n k : ℕ) (c : Held) → driveOf n k (codeOf s) input (passedIn given c) ≡ driveLaid given n k (passedIn given c) (step given (view (passedIn given c)))
-          → driveOf n k (codeOf s) input (pastIn (codeOf s) c) ≡ driveLaid given n k (passedIn given c) (step given (view (passedIn given c)))
-      passes n k c e = ap (λ (d : Held). driveOf n k (codeOf s) input d) (past-is s input room c) ∙ e
+      passes : (n k : ℕ) (c : Held) → driveOf n k (codeOf s) input (passedIn g c) ≡ driveLaid g n k (passedIn g c) (step g (view (passedIn g c)))
+          → driveOf n k (codeOf s) input (pastIn (codeOf s) c) ≡ driveLaid g n k (passedIn g c) (step g (view (passedIn g c)))
+      passes n k c e = ap (λ (d : Held). driveOf n k (codeOf s) input d) (past-is s mode input room c) ∙ e
 
-      drives : (n k : ℕ) (c : Held) → Sound c → driveOf n k (codeOf s) input c ≡ driveLaid given n k c (step given (view c))
+      drives : (n k : ℕ) (c : Held) → Sound c → driveOf n k (codeOf s) input c ≡ driveLaid g n k c (step g (view c))
       drives zero k c h =
           byCase (over c)
           (λ e. code-over 0 k c e ∙ sym (in-over 0 k c _ (ended c e)))
@@ -173,9 +173,9 @@ module _ (s input : List ℕ) where
       drives (suc n) k c h =
           byCase (over c)
           (λ e. code-over (suc n) k c e ∙ sym (in-over (suc n) k c _ (ended c e)))
-          (λ e. turns n k c e (λ t q. passes n (suc k) (lay t c) (drives n (suc k) (passedIn given (lay t c)) (sound-passed (lay t c) (sound-next c t h q)))) _ (real c e) refl (stepped c h e))
+          (λ e. turns n k c e (λ t q. passes n (suc k) (lay t c) (drives n (suc k) (passedIn g (lay t c)) (sound-passed (lay t c) (sound-next c t h q)))) _ (real c e) refl (stepped c h e))
 
-      shows : (n k : ℕ) (c : Held) (o : Outcome) → Sound c → step given (view c) ≡ o → seen (driveLaid given n k c o) ≡ drive given n k (view c) o
+      shows : (n k : ℕ) (c : Held) (o : Outcome) → Sound c → step g (view c) ≡ o → seen (driveLaid g n k c o) ≡ drive g n k (view c) o
       unfolding driveLaid drive
       shows zero k c finished h q = refl
       shows zero k c (refused m l) h q = refl
@@ -183,31 +183,34 @@ module _ (s input : List ℕ) where
       shows (suc n) k c finished h q = refl
       shows (suc n) k c (refused m l) h q = refl
       shows (suc n) k c (next t) h q =
-          shows n (suc k) (passedIn given (lay t c)) (step given (view (passedIn given (lay t c)))) (sound-passed (lay t c) (sound-next c t h q)) refl
-          ∙ ap (λ (u : State). drive given n (suc k) u (step given u)) (seen-next c t h q)
+          shows n (suc k) (passedIn g (lay t c)) (step g (view (passedIn g (lay t c)))) (sound-passed (lay t c) (sound-next c t h q)) refl
+          ∙ ap (λ (u : State). drive g n (suc k) u (step g u)) (seen-next c t h q)
 
     module _ (n : ℕ) (c : Held) (h : Fits s input c) where
+      abbrev mode : ℕ
+      mode = c .numbers .mode
+
       abbrev room : ℕ
       room = length (c .output)
 
-      sound : Sound room c
-      sound = record { fits = h; roomy = refl }
+      sound : Sound mode room c
+      sound = record { fits = h; same = refl }
 
       -- the code's run is the model's run, laid after each step
       pub run-laid : runOf n 0 (codeOf s) input c ≡ runLaid (givenTo s input c) n c
       unfolding runLaid runOf
-      run-laid = passes room n 0 c (drives room n 0 _ (sound-passed room c sound))
+      run-laid = passes mode room n 0 c (drives mode room n 0 _ (sound-passed mode room c sound))
 
       -- and what is seen of that is the model's answer
       pub run-seen : seen (runLaid (givenTo s input c) n c) ≡ run (givenTo s input c) n (view c)
       unfolding runLaid run
       run-seen =
           let g = givenTo s input c in
-          shows room n 0 (passedIn g c) _ (sound-passed room c sound) refl ∙ ap (λ (u : State). drive g n 0 u (step g u)) (seen-passed g c)
+          shows mode room n 0 (passedIn g c) _ (sound-passed mode room c sound) refl ∙ ap (λ (u : State). drive g n 0 u (step g u)) (seen-passed g c)
 
   -- ---- the fresh run
 
   -- the fresh state fits, laid over what is as large as the limits
   pub fresh-fits : (cells : ℕ) (c : Held) → 1024 ≤ length (c .register) → 256 ≤ length (c .table) → 256 ≤ length (c .channel) → length (c .calls) ≡ 256 → length (c .refs) ≡ 256
-      → Fits s input (lay (fresh cells) c)
-  fresh-fits cells c w u r kc kr = lay-over (fresh cells) c w u r kc kr (fresh-formed (givenTo s input c) cells)
+      → c .numbers .mode ≤ byMark → Fits s input (lay (fresh cells) c)
+  fresh-fits cells c w u r kc kr y = lay-over (fresh cells) c w u r kc kr (fresh-formed (givenTo s input c) cells y)

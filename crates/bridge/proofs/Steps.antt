@@ -30,7 +30,7 @@ use Rattle.device_ops.specs.Device.{deviceOf}
 use Rattle.machine_step.specs.Held.{Held}
 use Rattle.machine_step.specs.Step.{opOf, stepOf}
 use Rattle.bridge.specs.View.{view, laid}
-use Rattle.bridge.specs.Decoded.{codeOf, givenOf, givenTo}
+use Rattle.bridge.specs.Decoded.{codeOf, givenTo}
 use Rattle.bridge.specs.Fits.{Counted, Fits}
 use Rattle.bridge.proofs.Families.{cell-row, lane-row}
 use Rattle.bridge.proofs.Control.{Rows, function-is, call-is, ret-is, while-is, if-is, else-is, end-is}
@@ -41,12 +41,12 @@ use Rattle.bridge.proofs.Decoded.{itemOf, row-of, rows, op-is-item, kin
 
 -- an op of any row, with n what its payload counts
 module _ (g : Given) (ks bs : List ℕ) (n a : ℕ) (c : Held) (h : Counted c) (r : Rows (g .ops) ks) (f : Formed g (view c))
-    (marked : count (functions (g .ops)) ≤ 256) (room : g .room ≡ length (c .output)) (here : c .numbers .position < length ks) (small : n ≤ 1024) where
+    (marked : count (functions (g .ops)) ≤ 256) (room : g .room ≡ length (c .output)) (mode : g .mode ≡ c .numbers .mode) (here : c .numbers .position < length ks) (small : n ≤ 1024) where
   control-op : (x : Control) → opAt (g .ops) (c .numbers .position) ≡ control x → needs (control x) ≤ c .numbers .lanes
       → opOf (indexOf (controlKind x)) n a ks bs (g .input) c ≡ laid c (exec g (control x) (view c))
   unfolding indexOf opOf familyOf controlOf pick exec
   control-op function e w = function-is g ks r c h f marked here (ap isFunction e)
-  control-op call e w = call-is g ks r c h f marked w
+  control-op call e w = call-is g ks r c h f marked mode w
   control-op ret e w = ret-is g ks r c h
   control-op while e w = while-is g ks r c h here w
   control-op if e w = if-is g ks r c h here w
@@ -92,22 +92,22 @@ module _ (s input : List ℕ) (c : Held) (h : Fits s input c) (here : c .numbers
   here-is : (k n a : ℕ) → k ≡ itemOf s (c .numbers .position) .row → n ≡ itemOf s (c .numbers .position) .count → a ≡ itemOf s (c .numbers .position) .payload
       → needs (file.opAt s (itemOf s (c .numbers .position))) ≤ c .numbers .lanes
       → opOf k n a (codeOf s .rows) s input c ≡ laid c (exec (givenTo s input c) (file.opAt s (itemOf s (c .numbers .position))) (view c))
-  unfolding givenOf file.opAt
+  unfolding file.opAt
   here-is k n a ek en ea w =
-      let i = c .numbers .position in let x = itemOf s i in let room = length (c .output) in
+      let i = c .numbers .position in let x = itemOf s i in
       let q = is-item s i here in
       rw (ek, en, ea)
       (ap (λ (z : ℕ). opOf z (x .count) (x .payload) (codeOf s .rows) s input c) (sym (row-of s x q .number))
-      ∙ op-by (givenOf s input room) (codeOf s .rows) s (x .count) (x .payload) c (h .counted) (rows s input room) (h .formed) (few-entered s input room) refl here
+      ∙ op-by (givenTo s input c) (codeOf s .rows) s (x .count) (x .payload) c (h .counted) (rows s) (h .formed) (few-entered s) refl refl here
       (omega (arith, few s i here, count-is s i))
-      (rowAt (x .row)) (op-is-item s input room i here) (means s x q .count) w)
+      (rowAt (x .row)) (op-is-item s i here) (means s x q .count) w)
 
   step-by : (c .numbers .halted || leb (length (givenTo s input c .ops)) (c .numbers .position)) ≡ false
       → stepOf (codeOf s) input c ≡ laid c (step (givenTo s input c) (view c))
   unfolding stepOf pick step op bar
   step-by t =
-      let i = c .numbers .position in let room = length (c .output) in let need = getD (codeOf s .needs) i 0 in
-      rw (t, op-is-item s input room i here, ← need-is s i here, length-take-le (c .numbers .lanes) (c .register) (h .counted .lanes), bytes-are s)
+      let i = c .numbers .position in let need = getD (codeOf s .needs) i 0 in
+      rw (t, op-is-item s i here, ← need-is s i here, length-take-le (c .numbers .lanes) (c .register) (h .counted .lanes), bytes-are s)
       (byCase (ltb (c .numbers .lanes) need)
       (λ q. rw q refl)
       (λ q. rw q (here-is (getD (codeOf s .rows) i 0) (getD (codeOf s .counts) i 0) (getD (codeOf s .payloads) i 0) (kind-is s i) (count-is s i) (place-is s i) (omega (arith, ltb-false (c .numbers .lanes) need q, need-is s i here)))))
@@ -116,4 +116,4 @@ module _ (s input : List ℕ) (c : Held) (h : Fits s input c) (here : c .numbers
   pub step-is : c .numbers .halted ≡ false → stepOf (codeOf s) input c ≡ laid c (step (givenTo s input c) (view c))
   step-is e =
       let ops = givenTo s input c .ops in
-      step-by (neither e (lt-leb (length ops) (c .numbers .position) (omega (arith, rows s input (length (c .output)) .many))))
+      step-by (neither e (lt-leb (length ops) (c .numbers .position) (omega (arith, rows s .many))))

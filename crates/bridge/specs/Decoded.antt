@@ -6,7 +6,7 @@ use lib.ListN.{length}
 use Rattle.ops.specs.Patch.{Item, patchOf, rowIn, countIn, needIn, payloadIn}
 use Rattle.ops.specs.Decode.{opAt}
 use Rattle.ops.specs.Syntax.{Op}
-use Rattle.machine_model.specs.State.{Given}
+use Rattle.machine_model.specs.State.{Given, given}
 use Rattle.partners.specs.Columns.{partnersOf, turnsOf, functionsOf}
 use Rattle.machine_step.specs.Held.{Held, Code, code}
 
@@ -17,10 +17,10 @@ codeOf s =
     let ks = map rowIn xs in
     code ks (map countIn xs) (map needIn xs) (map payloadIn xs) (partnersOf ks) (turnsOf ks) (functionsOf ks) s
 
--- what a run of it is given: the ops that its bytes mean, the input, and room for so many outputs
-unfoldable pub givenOf : List ℕ → List ℕ → ℕ → Given
-givenOf s input room = record { ops = map (opAt s) (patchOf s .items); input = input; room = room }
+-- the ops that its bytes mean
+unfoldable pub patchIn : List ℕ → List Op
+patchIn s = map (opAt s) (patchOf s .items)
 
--- the same where the output of c is lent
+-- what a run of it is given, in the mode of c and with its output lent
 abbrev pub givenTo : List ℕ → List ℕ → Held → Given
-givenTo s input c = givenOf s input (length (c .output))
+givenTo s input c = given (patchIn s) (c .numbers .mode) input (length (c .output))

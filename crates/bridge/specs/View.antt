@@ -1,5 +1,5 @@
 -- What a machine and its lent slices stand for (`view`), and a state written over them (`lay`), so that entries outside the counts keep
--- their values. Assumes nothing.
+-- their values; so does the call mode, which no step changes. Assumes nothing.
 use mathlib.Core.List.{List}
 use Prim.Native.Nat.{ℕ, _+_, _-_, _%_}
 use lib.ListN.{length, take}
@@ -49,6 +49,7 @@ lay s c =
         taken = s .taken;
         written = length (s .outs);
         halted = s .halted;
+        mode = c .numbers .mode;
       };
       calls = fill (s .calls) (c .calls);
       refs = fill (s .refs) (c .refs);

@@ -1,2 +1,3 @@
 -- The laws of the ops that steer.
 pub mod Partners
+pub mod Meant

@@ -1,4 +1,5 @@
--- What the ops that steer ask: the position is an op's, there is room, and the function table rises. Assumes nothing.
+-- What the ops that steer ask: the position is an op's, there is room, and the function table rises and has no more entries than there are marks.
+-- Assumes nothing.
 use mathlib.Core.Path.{_≡_}
 use mathlib.Core.List.{List}
 use Prim.Native.Nat.{ℕ, _≤_, _<_}
@@ -16,6 +17,7 @@ pub record CanSteer (p : Numbers) (ks cs g ts : List ℕ) : Type 0 where
   pub call-room : length cs ≡ limit.depth
   pub depth : p .depth ≤ limit.depth
   pub functions : p .functions ≤ length ts
+  pub entered : p .functions ≤ length (functionsOf ks)
   pub rising : Rising (take (p .functions) ts)
 
 -- the op at place i of the rows ks is of row k, and the column ps holds its partner
@@ -34,5 +36,6 @@ pub record CanCall (i d f : ℕ) (ks fs cs g ts : List ℕ) : Type 0 where
   pub call-room : length cs ≡ limit.depth
   pub depth : d ≤ limit.depth
   pub functions : f ≤ length ts
+  pub entered : f ≤ length fs
   pub rising : Rising (take f ts)
   pub marks : fs ≡ functionsOf ks

@@ -1,4 +1,5 @@
 -- The ops that steer, on the machine's numbers: ks has the rows of the patch's kinds, cs the saved calls, g the register, ts the table. Assumes nothing.
+use mathlib.Core.Bool.{Bool, _&&_, _||_}
 use mathlib.Core.List.{List}
 use Prim.Native.Nat.{ℕ, _+_, _-_, _^_}
 use lib.ListN.{length, getD, set}
@@ -25,13 +26,21 @@ functionOf ks p ts =
     (answered 0 (atPosition (ofFunctions p (countedIn (p .position) (p .functions) ts)) (endOf ks (p .position + 1) + 1)))
     (enteredIn (p .position) (p .functions) ts))
 
--- "21, 28, 32, 29 .. table entry k if the table has more than k, else the k-th mark .. entered in the table"
+-- "table entry k if the table has more than k", and by 02, ask 4, in the Rust's mode only
+unfoldable pub asksTable : ℕ → ℕ → ℕ → Bool
+asksTable mode k n = eqb mode 0 && ltb k n
+
+-- whether entry k of the table is the mark that is meant: by mark, where it is the k-th of the marks fs
+unfoldable pub standsIn : ℕ → ℕ → ℕ → List ℕ → List ℕ → Bool
+standsIn mode k n ts fs = ltb k n && (eqb mode 0 || eqb (getD ts k 0) (getD fs k 0))
+
+-- "21, 28, 32, 29 .. table entry k .., else the k-th mark .. entered in the table"
 unfoldable pub callOf : List ℕ → Numbers → List ℕ → List ℕ → List ℕ → Steered
 unfolding pick
 callOf ks p cs g ts =
     pick (leb (2 ^ 63) (getD g 0 0)) (steered (answered 28 p) cs ts)
     (pick (leb depth (p .depth)) (steered (answered 32 p) cs ts)
-    (pick (ltb (getD g 0 0) (p .functions))
+    (pick (asksTable (p .mode) (getD g 0 0) (p .functions))
     (steered (answered 0 (atPosition (ofDepth p (p .depth + 1)) (getD ts (getD g 0 0) 0 + 1))) (set cs (p .depth) (p .position)) ts)
     (pick (leb (length ks) (markOf ks (getD g 0 0))) (steered (answered 29 p) cs ts)
     (steered

@@ -7,16 +7,17 @@ ghost use Rattle.basics.specs.Limits as limit;
 ghost use Rattle.kind_table.specs.Rows as kind;
 ghost use Rattle.machine_model.specs.Formed.{Rising};
 ghost use Rattle.machine_numbers.specs.declared.numbers.Numbers.{Numbers};
-ghost use Rattle.machine_numbers.specs.Numbers.{atPosition, ofDepth, ofFunctions, left, oneList, steered};
+ghost use Rattle.machine_numbers.specs.Numbers.{atPosition, ofDepth, ofFunctions, ofMode, left, oneList, steered};
 ghost use Rattle.partners.specs.Columns.{turnsOf};
 ghost use Rattle.control_ops.specs.CanSteer.{Steers, CanCall};
-ghost use Rattle.control_ops.specs.Control.{jumpOf, functionOf, callOf, retOf, whileOf, ifOf, elsesOf, endsOf};
+ghost use Rattle.control_ops.specs.Control.{jumpOf, functionOf, standsIn, callOf, retOf, whileOf, ifOf, elsesOf, endsOf};
 use basics::wide::wide_short;
 use kind_table::row;
 use machine_numbers::numbers::DONE;
 use machine_numbers::numbers::HALTED;
 use machine_numbers::numbers::JUMPED;
 use machine_numbers::numbers::Numbers;
+use machine_numbers::numbers::RUST_TABLE;
 use machine_numbers::numbers::SIGN;
 use partners::scan;
 use searches::table;
@@ -54,8 +55,23 @@ pub fn function(
     JUMPED
 }
 
+// Whether entry j of the table is the mark that is meant: in the Rust's mode, where it has so many; by mark, where it is the j-th mark too.
+fn stands(mode: u32, j: usize, n: usize, table: &[u16], marks: &[u16]) -> bool
+    requires { ⌜ (n ≤ length (now table)) × (n ≤ length (now marks)) ⌝ }
+    ensures { λ r. ⌜ r ≡ standsIn mode j n (now (table .entry)) (now (marks .entry)) ⌝ }
+{
+    if n <= j {
+        return false;
+    }
+    if mode == RUST_TABLE {
+        return true;
+    }
+    table[j] == marks[j]
+}
+
 pub fn call(
     at: usize,
+    mode: u32,
     position: &mut usize,
     depth: &mut usize,
     functions: &mut usize,
@@ -66,7 +82,7 @@ pub fn call(
     table: &mut [u16],
 ) -> u32
     requires { ⌜ CanCall at (now depth) (now functions) (now rows) (now marks) (now calls) (now register) (now table) ⌝ }
-    ensures { λ r. ⌜ ((p : Numbers) → steered (left r at (ofFunctions (ofDepth (atPosition p (now (position .exit))) (now (depth .exit))) (now (functions .exit)))) (now (calls .exit)) (now (table .exit)) ≡ callOf (now (rows .entry)) (ofFunctions (ofDepth (atPosition p at) (now (depth .entry))) (now (functions .entry))) (now (calls .entry)) (now (register .entry)) (now (table .entry))) ⌝ }
+    ensures { λ r. ⌜ ((p : Numbers) → steered (left r at (ofFunctions (ofDepth (atPosition (ofMode p mode) (now (position .exit))) (now (depth .exit))) (now (functions .exit)))) (now (calls .exit)) (now (table .exit)) ≡ callOf (now (rows .entry)) (ofFunctions (ofDepth (atPosition (ofMode p mode) at) (now (depth .entry))) (now (functions .entry))) (now (calls .entry)) (now (register .entry)) (now (table .entry))) ⌝ }
 {
     let d = *depth;
     let n = *functions;
@@ -78,7 +94,7 @@ pub fn call(
         return 32;
     }
     let j = k as usize;
-    if j < n {
+    if stands(mode, j, n, table, marks) {
         calls[d] = at as u16;
         *depth = d + 1;
         let to = wide_short(table[j]);

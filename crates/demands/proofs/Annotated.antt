@@ -2,24 +2,23 @@
 -- moved. Assumes nothing.
 use mathlib.Core.Path.{_≡_, _∙_, ap, sym, subst}
 use mathlib.Core.Bool.{true}
-use mathlib.Core.List.{List, _∷_, _++_, map}
+use mathlib.Core.List.{List, _∷_, _++_}
 use Prim.Native.Nat.{ℕ}
 use lib.ListN.{length}
 use Rattle.ops.specs.Syntax.{Op}
 use Rattle.ops.specs.Syntax.Plain.{comment}
 use Rattle.ops.specs.Syntax.Op.{plain}
 use Rattle.ops.specs.Patch.{patchOf}
-use Rattle.ops.specs.Decode as file
 use Rattle.machine_model.specs.State.{given, fresh}
 use Rattle.machine_model.specs.Run.{run}
 use Rattle.free_comments.specs.Free.{skip, bare, kept, answered, Same, CommentFree, CommentsFree}
 use Rattle.free_comments.proofs.One.{comment-free}
 use Rattle.free_comments.proofs.Bare.{comments-free}
 use Rattle.machine_step.specs.Held.{Slices}
-use Rattle.bridge.specs.Decoded.{givenOf}
+use Rattle.bridge.specs.Decoded.{patchIn}
 use Rattle.bridge.specs.Run.{Ran, seen}
 use Rattle.bridge.proofs.Decoded.{Bytes}
-use Rattle.states.specs.Formed.{hasRoom}
+use Rattle.states.specs.Formed.{canStart}
 use Rattle.machine.specs.Calls.{ranTo, freshCall}
 use Rattle.machine.specs.declared.machine.Ran as code
 use Rattle.demands.proofs.Calls.{fresh-is-model}
@@ -28,28 +27,27 @@ use Rattle.demands.proofs.Calls.{fresh-is-model}
 pub record IsFile (s : List ℕ) (os : List Op) : Type 0 where
   pub bytes : Bytes s
   pub good : patchOf s .number ≡ 0
-  pub ops : map (file.opAt s) (patchOf s .items) ≡ os
+  pub ops : patchIn s ≡ os
 
--- two runs that meet the contract of `run_fresh`, of the file s and of the file t, lent slices of the same room: what is seen of the second is what is
+-- two runs that meet the contract of `run_fresh`, of the file s and of the file t, in the same mode, lent slices of the same room: what is seen of the second is what is
 -- seen of the first, with its places moved by f
 abbrev pub SameFresh : List ℕ → List ℕ → (ℕ → ℕ) → Type 0
 SameFresh s t f =
-    (input : List ℕ) (budget : ℕ) (l : Slices) → hasRoom (l .register) (l .table) (l .channel) ≡ true
-    → (r q : code.Ran) (n m : Slices) → ranTo r n ≡ freshCall s input budget l → ranTo q m ≡ freshCall t input budget l
+    (input : List ℕ) (budget mode : ℕ) (l : Slices) → canStart mode (l .register) (l .table) (l .channel) ≡ true
+    → (r q : code.Ran) (n m : Slices) → ranTo r n ≡ freshCall s input budget mode l → ranTo q m ≡ freshCall t input budget mode l
     → seen (ranTo q m) ≡ answered f (seen (ranTo r n))
 
 module _ (s : List ℕ) (os : List Op) (h : IsFile s os) where
-  runs : (input : List ℕ) (budget : ℕ) (l : Slices) → hasRoom (l .register) (l .table) (l .channel) ≡ true
-      → (r : code.Ran) (n : Slices) → ranTo r n ≡ freshCall s input budget l
-      → seen (ranTo r n) ≡ run (given os input (length (l .output))) budget (fresh (length (l .tape)))
-  unfolding givenOf
-  runs input b l w r n e =
-      ap (λ (a : Ran). seen a) e ∙ fresh-is-model s input (h .bytes) (h .good) b l w
-      ∙ ap (λ (xs : List Op). run (given xs input (length (l .output))) b (fresh (length (l .tape)))) (h .ops)
+  runs : (input : List ℕ) (budget mode : ℕ) (l : Slices) → canStart mode (l .register) (l .table) (l .channel) ≡ true
+      → (r : code.Ran) (n : Slices) → ranTo r n ≡ freshCall s input budget mode l
+      → seen (ranTo r n) ≡ run (given os mode input (length (l .output))) budget (fresh (length (l .tape)))
+  runs input b mode l w r n e =
+      ap (λ (a : Ran). seen a) e ∙ fresh-is-model s input (h .bytes) (h .good) b mode l w
+      ∙ ap (λ (xs : List Op). run (given xs mode input (length (l .output))) b (fresh (length (l .tape)))) (h .ops)
 
 same-fresh : (s t : List ℕ) (os os′ : List Op) (f : ℕ → ℕ) → IsFile s os → IsFile t os′ → Same os os′ f → SameFresh s t f
-same-fresh s t os os′ f h k same input b l w r q n m e d =
-    runs t os′ k input b l w q m d ∙ same input (length (l .output)) (length (l .tape)) b ∙ ap (answered f) (sym (runs s os h input b l w r n e))
+same-fresh s t os os′ f h k same input b mode l w r q n m e d =
+    runs t os′ k input b mode l w q m d ∙ same mode input (length (l .output)) (length (l .tape)) b ∙ ap (answered f) (sym (runs s os h input b mode l w r n e))
 
 -- one comment, at any place of the patch
 pub fresh-comment-free : (A : List Op) (bs : List ℕ) (B : List Op) (s t : List ℕ) → IsFile s (A ++ plain (comment bs) ∷ B) → IsFile t (A ++ B)

@@ -11,7 +11,7 @@ use Rattle.basics.proofs.Tests.{byCase}
 use Rattle.ops.specs.Patch.{patchOf}
 use Rattle.answers.specs.Run.{numberOf}
 use Rattle.answers.specs.declared.run.Answer.{Answer}
-use Rattle.machine_model.specs.State.{State, Given, fresh}
+use Rattle.machine_model.specs.State.{State, Given, given, fresh}
 use Rattle.machine_model.specs.Step.{Outcome, step}
 use Rattle.machine_model.specs.Step.Outcome.{finished, refused, next}
 use Rattle.machine_model.specs.Passed.{passed}
@@ -19,12 +19,12 @@ use Rattle.machine_model.specs.Run.{run}
 use Rattle.machine_numbers.specs.Numbers.{atPosition}
 use Rattle.machine_step.specs.Held.{Slices, Held}
 use Rattle.bridge.specs.View.{view}
-use Rattle.bridge.specs.Decoded.{codeOf, givenOf, givenTo}
+use Rattle.bridge.specs.Decoded.{codeOf, patchIn, givenTo}
 use Rattle.bridge.specs.Run.{Ran, ran, standing, passedIn, seen}
 use Rattle.bridge.proofs.Decoded.{Bytes}
 use Rattle.bridge.proofs.Runs.{run-seen}
 use Rattle.machine.specs.Fresh.{freshOf}
-use Rattle.states.specs.Formed.{hasRoom, isFormed}
+use Rattle.states.specs.Formed.{canStart, isFormed}
 use Rattle.machine.specs.Calls.{Shown, shown, shownOf, lent, calling, stepCall, steppedTo, runCall, ranTo, freshOn, freshCall}
 use Rattle.machine.specs.declared.machine.Machine.{Machine}
 use Rattle.machine.specs.declared.machine.Stepped.{Stepped}
@@ -61,18 +61,18 @@ pub run-coincides : (s input : List ℕ) (b : ℕ) (c : Held) (r q : code.Ran) (
     → (r ≡ q) × (l ≡ m)
 run-coincides s input b c r q l m e f = alike (runCall s input b c) r q l m e f
 
-pub fresh-coincides : (s input : List ℕ) (b : ℕ) (n : Slices) (r q : code.Ran) (l m : Slices) → ranTo r l ≡ freshCall s input b n → ranTo q m ≡ freshCall s input b n
+pub fresh-coincides : (s input : List ℕ) (b mode : ℕ) (n : Slices) (r q : code.Ran) (l m : Slices) → ranTo r l ≡ freshCall s input b mode n → ranTo q m ≡ freshCall s input b mode n
     → (r ≡ q) × (l ≡ m)
-fresh-coincides s input b n r q l m e f = alike (freshCall s input b n) r q l m e f
+fresh-coincides s input b mode n r q l m e f = alike (freshCall s input b mode n) r q l m e f
 
 -- ---- a refusal leaves all as found
 
--- the file is good, and the state is one, or for the fresh run there is room
+-- the file is good, and the state is one, or for the fresh run the mode is known and there is room
 abbrev pub begins : List ℕ → List ℕ → Held → Bool
 begins s input c = eqb (patchOf s .number) 0 && isFormed (codeOf s .rows) (length input) c
 
-abbrev pub beginsFresh : List ℕ → Slices → Bool
-beginsFresh s l = eqb (patchOf s .number) 0 && hasRoom (l .register) (l .table) (l .channel)
+abbrev pub beginsFresh : List ℕ → ℕ → Slices → Bool
+beginsFresh s mode l = eqb (patchOf s .number) 0 && canStart mode (l .register) (l .table) (l .channel)
 
 -- a machine at another position
 abbrev pub machineAt : Machine → ℕ → Machine
@@ -130,11 +130,12 @@ pub refused-before-run-same : (s input : List ℕ) (b : ℕ) (m : Machine) (l : 
 unfolding runCall
 refused-before-run-same s input b m l r n e z = idle-same (runCall s input b (lent m l)) m l r n e (idle s (lent m l) (isFormed (codeOf s .rows) (length input) (lent m l)) _ z)
 
--- and a fresh run likewise: the machine that it hands back is the fresh one, and no zeros are written
-pub refused-before-fresh-same : (s input : List ℕ) (b : ℕ) (l : Slices) (r : code.Ran) (n : Slices) → ranTo r n ≡ freshCall s input b l
-    → beginsFresh s l ≡ false → (r .steps ≡ 0) × (r .machine ≡ freshOf) × (n ≡ l)
+-- and a fresh run likewise: the machine that it hands back is the fresh one in that mode, and no zeros are written
+pub refused-before-fresh-same : (s input : List ℕ) (b mode : ℕ) (l : Slices) (r : code.Ran) (n : Slices) → ranTo r n ≡ freshCall s input b mode l
+    → beginsFresh s mode l ≡ false → (r .steps ≡ 0) × (r .machine ≡ freshOf mode) × (n ≡ l)
 unfolding freshCall
-refused-before-fresh-same s input b l r n e z = idle-same (freshCall s input b l) freshOf l r n e (idle s (lent freshOf l) (hasRoom (l .register) (l .table) (l .channel)) _ z)
+refused-before-fresh-same s input b mode l r n e z =
+    idle-same (freshCall s input b mode l) (freshOf mode) l r n e (idle s (lent (freshOf mode) l) (canStart mode (l .register) (l .table) (l .channel)) _ z)
 
 -- ---- a run is the model's
 
@@ -146,10 +147,10 @@ module _ (s input : List ℕ) (y : Bytes s) (z : patchOf s .number ≡ 0) (b : �
   run-is-model c kc kr e = rw (eq-eqb (patchOf s .number) 0 z, e) (run-seen s input y b c (formed-fits s input c kc kr e))
 
   -- and of a fresh run it is the model's run from the fresh state
-  pub fresh-is-model : (l : Slices) → hasRoom (l .register) (l .table) (l .channel) ≡ true
-      → seen (freshCall s input b l) ≡ run (givenOf s input (length (l .output))) b (fresh (length (l .tape)))
-  unfolding freshCall
-  fresh-is-model l e =
+  pub fresh-is-model : (mode : ℕ) (l : Slices) → canStart mode (l .register) (l .table) (l .channel) ≡ true
+      → seen (freshCall s input b mode l) ≡ run (given (patchIn s) mode input (length (l .output))) b (fresh (length (l .tape)))
+  unfolding freshCall freshOf
+  fresh-is-model mode l e =
       rw (eq-eqb (patchOf s .number) 0 z, e)
-      (run-seen s input y b (freshOn l) (fresh-fits l e s input y)
-      ∙ ap (λ (t : State). run (givenOf s input (length (l .output))) b t) (fresh-view l e))
+      (run-seen s input y b (freshOn mode l) (fresh-fits mode l e s input y)
+      ∙ ap (λ (t : State). run (given (patchIn s) mode input (length (l .output))) b t) (fresh-view mode l e))

@@ -9,7 +9,7 @@ use Rattle.ops.specs.Syntax.Plain.{store, put}
 use Rattle.ops.specs.Syntax.Sort.{ints}
 use Rattle.ops.specs.Syntax.Op.{control, set, load, plain}
 use Rattle.ops.specs.declared.op.Mode.the-variants.{Char}
-use Rattle.machine_model.specs.State.{fresh}
+use Rattle.machine_model.specs.State.{rustTable, fresh}
 use Rattle.machine_model.specs.Run.{Answer, run}
 use Rattle.answers.specs.Check.{numberOf, placeOf}
 use Rattle.patch_check.specs.Check.{check}
@@ -29,7 +29,7 @@ show v a = numberOf v ∷ placeOf v ∷ a .number ∷ a .steps ∷ a .place ∷ 
 
 tried : Case → List ℕ
 unfolding show check run fresh
-tried c = show (check (c .patch)) (run (given (c .patch) [] 4) 100 (fresh 4))
+tried c = show (check (c .patch)) (run (given (c .patch) rustTable [] 4) 100 (fresh 4))
 
 cases : List Case
 unfolding case

@@ -12,12 +12,11 @@ use Rattle.machine_model.specs.Step.Outcome.{finished, refused, next}
 use Rattle.machine_model.proofs.Kept.{step-formed}
 use Rattle.machine_step.specs.Held.{Held}
 use Rattle.bridge.specs.View.{view, lay}
-use Rattle.bridge.specs.Decoded.{givenOf, givenTo}
+use Rattle.bridge.specs.Decoded.{givenTo}
 use Rattle.bridge.specs.Fits.{Fits}
 use Rattle.bridge.specs.Run.{Ran, passedIn, driveLaid, runLaid}
-use Rattle.bridge.proofs.Over.{lay-room}
 use Rattle.bridge.proofs.Decoded.{Bytes, limited}
-use Rattle.bridge.proofs.Runs.{lay-fits, passed-fits}
+use Rattle.bridge.proofs.Runs.{lay-given, lay-fits, passed-fits}
 use Rattle.machine.proofs.StepIsARun.{onceOf}
 
 -- ---- a run
@@ -37,26 +36,24 @@ module _ (g : Given) (P : Held → Type 0) (passes : (c : Held) → P c → P (p
   unfolding runLaid
   run-keeps n c h = drive-keeps n 0 (passedIn g c) _ (passes c h) refl
 
-module _ (s input : List ℕ) (y : Bytes s) (room : ℕ) where
-  -- it fits the patch, and has the room that the run was given
-  abbrev Roomy : Held → Type 0
-  Roomy c = Fits s input c × (length (c .output) ≡ room)
+module _ (s input : List ℕ) (y : Bytes s) (g : Given) where
+  -- it fits the patch, and a run of it is given the same
+  abbrev Same : Held → Type 0
+  Same c = Fits s input c × (givenTo s input c ≡ g)
 
-  stands : (c : Held) → Roomy c → Roomy (passedIn (givenOf s input room) c)
+  stands : (c : Held) → Same c → Same (passedIn g c)
   unfolding passedIn
-  stands c h = (subst (λ (m : ℕ). Fits s input (passedIn (givenOf s input m) c)) (h .1) (passed-fits s input c (h .0)), h .1)
+  stands c h = (subst (λ (x : Given). Fits s input (passedIn x c)) (h .1) (passed-fits s input c (h .0)), h .1)
 
-  step-fits : (c : Held) (t : State) → Roomy c → step (givenOf s input room) (view c) ≡ next t → Roomy (lay t c)
-  unfolding givenOf
+  step-fits : (c : Held) (t : State) → Same c → step g (view c) ≡ next t → Same (lay t c)
   step-fits c t h e =
-      let own = length (c .output) in
-      let f = step-formed (givenOf s input own) (limited s y input own) (view c) t (h .0 .formed) (ap (λ (m : ℕ). step (givenOf s input m) (view c)) (h .1) ∙ e) in
-      (lay-fits s input t c (h .0) f, lay-room t c (f .fits) ∙ h .1)
+      let f = step-formed (givenTo s input c) (limited s y) (view c) t (h .0 .formed) (ap (λ (x : Given). step x (view c)) (h .1) ∙ e) in
+      (lay-fits s input t c (h .0) f, lay-given s input t c (f .fits) ∙ h .1)
 
 pub run-fits : (s input : List ℕ) → Bytes s → (n : ℕ) (c : Held) → Fits s input c → Fits s input (runLaid (givenTo s input c) n c .held)
 run-fits s input y n c h =
-    let room = length (c .output) in
-    run-keeps (givenTo s input c) (Roomy s input y room) (stands s input y room) (step-fits s input y room) n c (h, refl) .0
+    let g = givenTo s input c in
+    run-keeps g (Same s input y g) (stands s input y g) (step-fits s input y g) n c (h, refl) .0
 
 -- ---- a step
 

@@ -22,7 +22,7 @@ use Rattle.machine_step.specs.Held.{Slices, Held}
 use Rattle.bridge.specs.View.{view, lay}
 use Rattle.bridge.specs.Decoded.{codeOf, givenTo}
 use Rattle.bridge.specs.Run.{Ran, ran, passedIn}
-use Rattle.states.specs.Formed.{hasRoom, isFormed}
+use Rattle.states.specs.Formed.{canStart, isFormed}
 use Rattle.states.proofs.WellFormed.{limits, first-tests}
 use Rattle.machine.specs.Fresh.{freshOf}
 use Rattle.machine.specs.Calls.{Shown, shown, shownOf, lent, calling, stepLaid, stepCall, runCall, freshOn, freshCall}
@@ -61,7 +61,7 @@ module _ (g : Given) where
   shown-whole c (next t) w e = stands-whole (lay t c) (lay-whole c t w e)
 
 -- what holds of a call's refusals and of its work holds of the call
-calling-keeps : {A : Type 0} (P : A → Type 0) (s : List ℕ) (test : Bool) (refuse : Answer → A) (work : A) → ((a : Answer) → P (refuse a)) → P work
+pub calling-keeps : {A : Type 0} (P : A → Type 0) (s : List ℕ) (test : Bool) (refuse : Answer → A) (work : A) → ((a : Answer) → P (refuse a)) → P work
     → P (calling s test refuse work)
 calling-keeps P s test refuse work h k =
     byCase (eqb (patchOf s .number) 0)
@@ -71,11 +71,11 @@ calling-keeps P s test refuse work h k =
 -- whatever files the calls were given, and whatever they were lent
 pub lengths-handed-back : (m : Machine) → HandedBack m → Whole (m .numbers .length)
 unfolding freshCall runCall stepCall freshOf
-lengths-handed-back _ (by-fresh s input b l n r e) =
+lengths-handed-back _ (by-fresh s input b mode l n r e) =
     subst (λ (a : Ran). WholeIn (a .held)) (sym e)
-    (calling-keeps (λ (a : Ran). WholeIn (a .held)) s (hasRoom (l .register) (l .table) (l .channel)) (λ a. ran a 0 (lent freshOf l)) _
+    (calling-keeps (λ (a : Ran). WholeIn (a .held)) s (canStart mode (l .register) (l .table) (l .channel)) (λ a. ran a 0 (lent (freshOf mode) l)) _
     (λ a. inl refl)
-    (let g = givenTo s input (freshOn l) in run-keeps g WholeIn (stands-whole g) (lay-whole g) b (freshOn l) (inl refl)))
+    (let g = givenTo s input (freshOn mode l) in run-keeps g WholeIn (stands-whole g) (lay-whole g) b (freshOn mode l) (inl refl)))
 lengths-handed-back _ (by-run m s input b l n r h e) =
     let w = lengths-handed-back m h in let c = lent m l in
     subst (λ (a : Ran). WholeIn (a .held)) (sym e)

@@ -13,5 +13,6 @@ pub mod Demand3
 pub mod Coincide
 pub mod OneTable
 pub mod Lengths
+pub mod CallModes
 pub mod Missing
 pub mod Annotated

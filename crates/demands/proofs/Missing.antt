@@ -2,7 +2,7 @@
 -- state that is handed in. (A file's refusal carries lane 0 by `laneOf`.) Assumes nothing.
 use mathlib.Core.Path.{_≡_, _∙_, sym, subst}
 use mathlib.Core.Bool.{false}
-use mathlib.Core.List.{List, map}
+use mathlib.Core.List.{List}
 use Prim.Native.Nat.{ℕ}
 use native.Mathlib.Omega.{arith}
 use lib.Dec.{eqb}
@@ -10,20 +10,19 @@ use lib.ListN.{length}
 use borrow.Author.Tests.{eq-eqb}
 use Rattle.basics.proofs.Tests.{byCase}
 use Rattle.ops.specs.Patch.{patchOf}
-use Rattle.ops.specs.Decode as file
 use Rattle.answers.specs.Run.{numberOf, laneOf}
 use Rattle.answers.specs.declared.run.Answer as answers
-use Rattle.machine_model.specs.State.{fresh}
+use Rattle.machine_model.specs.State.{given, fresh}
 use Rattle.machine_model.specs.Scan.{opAt}
 use Rattle.machine_model.specs.Run.{Answer}
 use Rattle.machine_model.specs.Missing.{Missing}
 use Rattle.machine_model.proofs.FirstMissing.{none-missing, run-missing}
 use Rattle.machine_step.specs.Held.{Slices, Held}
 use Rattle.bridge.specs.View.{view}
-use Rattle.bridge.specs.Decoded.{codeOf, givenOf, givenTo}
+use Rattle.bridge.specs.Decoded.{codeOf, patchIn, givenTo}
 use Rattle.bridge.specs.Run.{Ran}
 use Rattle.bridge.proofs.Decoded.{Bytes}
-use Rattle.states.specs.Formed.{hasRoom, isFormed}
+use Rattle.states.specs.Formed.{canStart, isFormed}
 use Rattle.machine.specs.Calls.{Shown, lent, stepCall, steppedTo, runCall, ranTo, freshCall}
 use Rattle.machine.specs.declared.machine.Machine.{Machine}
 use Rattle.machine.specs.declared.machine.Stepped.{Stepped}
@@ -33,23 +32,23 @@ use Rattle.demands.proofs.Calls.{run-is-model, fresh-is-model}
 
 -- of the op of the patch at the position, in the state that is left
 abbrev pub LacksIn : List ℕ → Held → answers.Answer → Type 0
-LacksIn s c a = Missing (view c) (opAt (map (file.opAt s) (patchOf s .items)) (c .numbers .position)) (numberOf a) (laneOf a)
+LacksIn s c a = Missing (view c) (opAt (patchIn s) (c .numbers .position)) (numberOf a) (laneOf a)
 
 module _ (s input : List ℕ) (y : Bytes s) (z : patchOf s .number ≡ 0) where
   lacks : Answer → Type 0
-  lacks a = Missing (a .state) (opAt (map (file.opAt s) (patchOf s .items)) (a .state .at)) (a .number) (a .lane)
+  lacks a = Missing (a .state) (opAt (patchIn s) (a .state .at)) (a .number) (a .lane)
 
   -- 37 lacks nothing
   not-run : (b : ℕ) (c : Held) → isFormed (codeOf s .rows) (length input) c ≡ false → let a = runCall s input b c in LacksIn s (a .held) (a .answer)
   unfolding runCall
   not-run b c e = rw (eq-eqb (patchOf s .number) 0 z, e) (none-missing _ _ 37 (λ q. omega arith) (λ q. omega arith) (λ q. omega arith))
 
-  not-fresh : (b : ℕ) (l : Slices) → hasRoom (l .register) (l .table) (l .channel) ≡ false → let a = freshCall s input b l in LacksIn s (a .held) (a .answer)
+  not-fresh : (b mode : ℕ) (l : Slices) → canStart mode (l .register) (l .table) (l .channel) ≡ false → let a = freshCall s input b mode l in LacksIn s (a .held) (a .answer)
   unfolding freshCall
-  not-fresh b l e = rw (eq-eqb (patchOf s .number) 0 z, e) (none-missing _ _ 37 (λ q. omega arith) (λ q. omega arith) (λ q. omega arith))
+  not-fresh b mode l e = rw (eq-eqb (patchOf s .number) 0 z, e) (none-missing _ _ 37 (λ q. omega arith) (λ q. omega arith) (λ q. omega arith))
 
   run-lacks : (b : ℕ) (c : Held) → length (c .calls) ≡ 256 → length (c .refs) ≡ 256 → let a = runCall s input b c in LacksIn s (a .held) (a .answer)
-  unfolding lacks givenOf
+  unfolding lacks
   run-lacks b c kc kr =
       byCase (isFormed (codeOf s .rows) (length input) c)
       (λ e. subst lacks (sym (run-is-model s input y z b c kc kr e)) (run-missing (givenTo s input c) b (view c)))
@@ -61,13 +60,13 @@ module _ (s input : List ℕ) (y : Bytes s) (z : patchOf s .number ≡ 0) where
   run-first-missing b m l kc kr r n e = subst (λ (a : Ran). LacksIn s (a .held) (a .answer)) (sym e) (run-lacks b (lent m l) kc kr)
 
   -- a fresh run
-  pub fresh-first-missing : (b : ℕ) (l : Slices) (r : code.Ran) (n : Slices) → ranTo r n ≡ freshCall s input b l → LacksIn s (lent (r .machine) n) (r .answer)
-  unfolding lacks givenOf
-  fresh-first-missing b l r n e =
+  pub fresh-first-missing : (b mode : ℕ) (l : Slices) (r : code.Ran) (n : Slices) → ranTo r n ≡ freshCall s input b mode l → LacksIn s (lent (r .machine) n) (r .answer)
+  unfolding lacks
+  fresh-first-missing b mode l r n e =
       subst (λ (a : Ran). LacksIn s (a .held) (a .answer)) (sym e)
-      (byCase (hasRoom (l .register) (l .table) (l .channel))
-      (λ f. subst lacks (sym (fresh-is-model s input y z b l f)) (run-missing (givenOf s input (length (l .output))) b (fresh (length (l .tape)))))
-      (λ f. not-fresh b l f))
+      (byCase (canStart mode (l .register) (l .table) (l .channel))
+      (λ f. subst lacks (sym (fresh-is-model s input y z b mode l f)) (run-missing (given (patchIn s) mode input (length (l .output))) b (fresh (length (l .tape)))))
+      (λ f. not-fresh b mode l f))
 
   once-lacks : (a : Ran) → LacksIn s (a .held) (a .answer) → LacksIn s (onceOf a .held) (onceOf a .answer)
   unfolding onceOf

@@ -14,7 +14,7 @@ use Rattle.ops.specs.Syntax.Op.{control, load, plain}
 use Rattle.testing_device.specs.Channel.{peekOf, pokeIn}
 use Rattle.testing_device.specs.declared.device.Peeked.{Peeked}
 use Rattle.testing_device.specs.declared.device.Peeked.the-variants as peeked
-use Rattle.machine_model.specs.State.{fresh, lane0}
+use Rattle.machine_model.specs.State.{given, rustTable, byMark, fresh, lane0}
 use Rattle.machine_model.specs.Run.{Answer, run}
 use Rattle.machine_model.proofs.Cases.{one, minus}
 use Rattle.machine_model.proofs.Cases as more
@@ -29,7 +29,7 @@ use Rattle.flattening.specs.declared.body.Body.{Body}
 -- a patch and its input, checked and run as the runner does; a patch joined; a patch flattened; a run over a tape, a room and a budget of its
 -- own, and the lane of such a run; values sent to an empty ring that starts at a place, and taken again
 data Try : Type 0 where
-  ran : List Op → List ℕ → Try
+  ran marked : List Op → List ℕ → Try
   joined flattened : List Op → Try
   run-in lane-in : more.Case → Try
   rung : ℕ → List ℕ → Try
@@ -79,7 +79,8 @@ show-ring (suc n) channel first waiting = before (peekOf channel first waiting) 
 -- "4,096 cells, room for 4,096 outputs, budget 100,000"
 tried : Try → List ℕ
 unfolding show-run run check fresh show-ops show-flat join flatten more.tried more.lane-tried sent show-ring
-tried (ran os vs) = show-run (check os) (run (record { ops = os; input = vs; room = 4096 }) 100_000 (fresh 4096))
+tried (ran os vs) = show-run (check os) (run (given os rustTable vs 4096) 100_000 (fresh 4096))
+tried (marked os vs) = show-run (check os) (run (given os byMark vs 4096) 100_000 (fresh 4096))
 tried (joined os) = show-ops (join os)
 tried (flattened os) = show-flat (flatten os)
 tried (run-in c) = more.tried c
@@ -137,14 +138,19 @@ thirteen =
     ∷ case (ran (one 9007199254740993 ∷ plain (lane ToFloat 1) ∷ plain (lane ToInt 1) ∷ []) []) (0 ∷ 3 ∷ 0 ∷ 3 ∷ 3 ∷ 9007199254740992 ∷ 0 ∷ 0 ∷ [])
     ∷ []
 
+-- 02, ask 4: case 9 by mark: "out 66 65", with the same steps and the same place
+nine-by-mark : Case
+unfolding one case prints
+nine-by-mark = case (marked (one 1 ∷ control call ∷ one 0 ∷ control call ∷ control ret ∷ prints 65 (prints 66 [])) []) (0 ∷ 15 ∷ 0 ∷ 11 ∷ 5 ∷ 65 ∷ 0 ∷ 0 ∷ 66 ∷ 65 ∷ [])
+
 -- three values over the end of the ring: the places 255, 0 and 1
 wraps : Case
 unfolding case
 wraps = case (rung 255 (7 ∷ 8 ∷ 9 ∷ [])) (7 ∷ 8 ∷ 9 ∷ 2 ∷ 0 ∷ [])
 
 cases : List Case
-unfolding thirteen wraps case more.cases more.lanes
-cases = thirteen ++ map (λ c. case (run-in c) (c .seen)) more.cases ++ map (λ c. case (lane-in c) (c .seen)) more.lanes ++ (wraps ∷ [])
+unfolding thirteen nine-by-mark wraps case more.cases more.lanes
+cases = thirteen ++ (nine-by-mark ∷ []) ++ map (λ c. case (run-in c) (c .seen)) more.cases ++ map (λ c. case (lane-in c) (c .seen)) more.lanes ++ (wraps ∷ [])
 
 all : map (λ c. tried (c .make)) cases ≡ map (λ c. c .seen) cases
 unfolding tried cases

@@ -116,13 +116,13 @@ fresh-inv os cells = omega (arith, known-zero lanes os)
 
 reached-inv : (os : List Op) → KeepsRules os → (s : State) → Reached os s → Inv os s
 reached-inv os rules s (at-first cells) = fresh-inv os cells
-reached-inv os rules s (run-on t input room budget r) = run-spares (given os input room) rules budget t (reached-inv os rules t r) .1
+reached-inv os rules s (run-on t mode input room budget r) = run-spares (given os mode input room) rules budget t (reached-inv os rules t r) .1
 
 -- from any state that runs of the patch came to, whatever is lent to this run
-pub safe-resumed : (os : List Op) → KeepsRules os → (s : State) → Reached os s → (input : List ℕ) (room budget : ℕ)
-    → Neither20Nor21 (run (given os input room) budget s .number)
-safe-resumed os rules s r input room budget = run-spares (given os input room) rules budget s (reached-inv os rules s r) .0
+pub safe-resumed : (os : List Op) → KeepsRules os → (s : State) → Reached os s → (mode : ℕ) (input : List ℕ) (room budget : ℕ)
+    → Neither20Nor21 (run (given os mode input room) budget s .number)
+safe-resumed os rules s r mode input room budget = run-spares (given os mode input room) rules budget s (reached-inv os rules s r) .0
 
 -- from fresh
-pub safe : (os : List Op) → KeepsRules os → (input : List ℕ) (room cells budget : ℕ) → Neither20Nor21 (run (given os input room) budget (fresh cells) .number)
-safe os rules input room cells budget = safe-resumed os rules (fresh cells) (at-first cells) input room budget
+pub safe : (os : List Op) → KeepsRules os → (mode : ℕ) (input : List ℕ) (room cells budget : ℕ) → Neither20Nor21 (run (given os mode input room) budget (fresh cells) .number)
+safe os rules mode input room cells budget = safe-resumed os rules (fresh cells) (at-first cells) mode input room budget

@@ -1,4 +1,4 @@
--- The fresh machine over what it is lent is the model's fresh state, laid; it fits every patch where there is room. Assumes nothing.
+-- The fresh machine over what it is lent is the model's fresh state, laid; it fits every patch where its mode is known and there is room. Assumes nothing.
 use mathlib.Core.Path.{_≡_, _∙_, refl, ap, sym, subst}
 use mathlib.Core.Bool.{true}
 use mathlib.Core.List.{List, [], _∷_}
@@ -16,9 +16,9 @@ use Rattle.bridge.proofs.Over.{view-lay}
 use Rattle.bridge.proofs.Runs as runs
 use Rattle.states.specs.Zeros.{zeroed}
 use Rattle.machine.specs.Fresh.{freshOf}
-use Rattle.states.specs.Formed.{hasRoom}
+use Rattle.states.specs.Formed.{canStart}
 use Rattle.machine.specs.Calls.{lent, freshOn}
-use Rattle.states.proofs.WellFormed.{room}
+use Rattle.states.proofs.WellFormed.{starts}
 
 -- all of it zero
 all-zero : (l : List ℕ) → zeroed (length l) l ≡ replicate (length l) 0
@@ -26,19 +26,20 @@ unfolding zeroed fill
 all-zero [] = refl
 all-zero (x ∷ xs) = ap (λ (l : List ℕ). 0 ∷ l) (all-zero xs)
 
-module _ (l : Slices) where
-  fresh-laid : freshOn l ≡ lay (fresh (length (l .tape))) (lent freshOf l)
+module _ (mode : ℕ) (l : Slices) where
+  fresh-laid : freshOn mode l ≡ lay (fresh (length (l .tape))) (lent (freshOf mode) l)
   unfolding lay fresh zeroed fill fillRing freshOf
   fresh-laid = rw (all-zero (l .tape), length-replicate {A = ℕ} 1024 0) refl
 
-  module _ (e : hasRoom (l .register) (l .table) (l .channel) ≡ true) where
-    pub fresh-view : view (freshOn l) ≡ fresh (length (l .tape))
+  module _ (e : canStart mode (l .register) (l .table) (l .channel) ≡ true) where
+    pub fresh-view : view (freshOn mode l) ≡ fresh (length (l .tape))
     unfolding fresh
-    fresh-view = ap view fresh-laid ∙ view-lay (fresh (length (l .tape))) (lent freshOf l) (omega arith) (room _ _ _ e .ringed)
+    fresh-view = ap view fresh-laid ∙ view-lay (fresh (length (l .tape))) (lent (freshOf mode) l) (omega arith) (starts _ _ _ _ e .1 .ringed)
 
-    pub fresh-fits : (s input : List ℕ) → Bytes s → Fits s input (freshOn l)
+    pub fresh-fits : (s input : List ℕ) → Bytes s → Fits s input (freshOn mode l)
     unfolding freshOf
     fresh-fits s input b =
-        let r = room (l .register) (l .table) (l .channel) e in
+        let q = starts mode (l .register) (l .table) (l .channel) e in
+        let r = q .1 in
         let n = length-replicate {A = ℕ} 256 0 in
-        subst (λ (d : Held). Fits s input d) (sym fresh-laid) (runs.fresh-fits s input (length (l .tape)) (lent freshOf l) (r .wide) (r .tabled) (r .ringed) n n)
+        subst (λ (d : Held). Fits s input d) (sym fresh-laid) (runs.fresh-fits s input (length (l .tape)) (lent (freshOf mode) l) (r .wide) (r .tabled) (r .ringed) n n (q .0))

@@ -18,7 +18,7 @@ pub data FromFresh : State → Type 0 where
 
 -- of the code: what a fresh run hands back, and what a run or a step does of a machine that was handed back; r meets the call's contract
 pub data HandedBack : Machine → Type 0 where
-  by-fresh : (s input : List ℕ) (budget : ℕ) (l n : Slices) (r : code.Ran) → ranTo r n ≡ freshCall s input budget l → HandedBack (r .machine)
+  by-fresh : (s input : List ℕ) (budget mode : ℕ) (l n : Slices) (r : code.Ran) → ranTo r n ≡ freshCall s input budget mode l → HandedBack (r .machine)
   by-run : (m : Machine) (s input : List ℕ) (budget : ℕ) (l n : Slices) (r : code.Ran) → HandedBack m → ranTo r n ≡ runCall s input budget (lent m l)
       → HandedBack (r .machine)
   by-step : (m : Machine) (s input : List ℕ) (l n : Slices) (r : Stepped) → HandedBack m → steppedTo r n ≡ stepCall s input (lent m l)

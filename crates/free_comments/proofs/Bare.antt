@@ -26,8 +26,8 @@ answered-twice : (f h : ℕ → ℕ) (r : Answer) → answered h (answered f r) 
 answered-twice f h r = let p = map-map h f (r .state .table) in let q = map-map h f (r .state .calls) in cc
 
 same-twice : (x y z : List Op) (f h : ℕ → ℕ) → Same x y f → Same y z h → Same x z (λ i. h (f i))
-same-twice x y z f h u w input room cells b =
-    w input room cells b ∙ ap (answered h) (u input room cells b) ∙ answered-twice f h (run (given x input room) b (fresh cells))
+same-twice x y z f h u w mode input room cells b =
+    w mode input room cells b ∙ ap (answered h) (u mode input room cells b) ∙ answered-twice f h (run (given x mode input room) b (fresh cells))
 
 -- ---- one after the other
 
@@ -69,7 +69,7 @@ abbrev Next : List Op → Op → List Op → Bool → Type 0
 Next A o B b = Same (A ++ o ∷ B) (A ++ cond b (bare B) (o ∷ bare B)) (λ i. cond b (rest (length A) B (skip (length A) i)) (rest (suc (length A)) B i))
 
 strip : (B A : List Op) → Same (A ++ B) (A ++ bare B) (rest (length A) B)
-strip [] A = λ input room cells budget. sym (answered-self (run (given (A ++ []) input room) budget (fresh cells)))
+strip [] A = λ mode input room cells budget. sym (answered-self (run (given (A ++ []) mode input room) budget (fresh cells)))
 strip (o ∷ B) A =
     byCase (isComment o)
     (λ c. subst (Next A o B) (sym c) (leave A o B (A ++ bare B) (rest (length A) B) c (strip B A)))
@@ -95,5 +95,5 @@ bare-none (o ∷ os) = by (isComment o) refl (bare-none os)
 -- the run of a patch is 01's run of the patch without its comments, with its places moved
 pub runs-bare : RunsBare
 unfolding RunsBare CommentsFree
-runs-bare os input room cells budget =
-    sym (same-without-comments (given (bare os) input room) (bare-none os) budget (fresh cells)) ∙ comments-free os input room cells budget
+runs-bare os mode input room cells budget =
+    sym (same-without-comments (given (bare os) mode input room) (bare-none os) budget (fresh cells)) ∙ comments-free os mode input room cells budget

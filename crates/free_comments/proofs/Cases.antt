@@ -13,7 +13,7 @@ use Rattle.free_comments.specs.Free.{bare}
 counted : Case → List (List ℕ)
 unfolding show runCounting fresh
 counted c =
-    let of : List Op → List ℕ = λ os. show (runCounting (given os [] (c .room)) (c .budget) (withTape (fresh 0) (c .tape))) in
+    let of : List Op → List ℕ = λ os. show (runCounting (given os (c .mode) [] (c .room)) (c .budget) (withTape (fresh 0) (c .tape))) in
     of (bare (c .ops)) ∷ of (c .ops) ∷ []
 
 all : map counted notes

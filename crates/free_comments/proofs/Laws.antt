@@ -39,11 +39,11 @@ all-past p [] a = omega arith
 all-past p (o ∷ os) a = rw (a 0 (omega arith)) (omega (arith, all-past (suc p) os (λ i h. a (suc i) (omega arith))))
 
 -- "a patch of comments finishes on budget 0", and on any other: no step is made, and it stands at its end
-pub only-comments : (os : List Op) → AllComments os → (input : List ℕ) (room cells budget : ℕ)
-    → run (given os input room) budget (fresh cells) ≡ answer 0 0 0 (goTo (fresh cells) (length os))
+pub only-comments : (os : List Op) → AllComments os → (mode : ℕ) (input : List ℕ) (room cells budget : ℕ)
+    → run (given os mode input room) budget (fresh cells) ≡ answer 0 0 0 (goTo (fresh cells) (length os))
 unfolding run fresh
-only-comments os a input room cells budget =
-    let g = given os input room in
+only-comments os a mode input room cells budget =
+    let g = given os mode input room in
     let t = goTo (fresh cells) (length os) in
     let at-end : Over g t = or-second (t .halted) _ (le-leb (length os) (length os) (le-refl (length os))) in
     ap (λ (s : State). drive g budget 0 s (step g s)) (passed-at g (fresh cells) refl ∙ ap (goTo (fresh cells)) (all-past 0 os a ∙ omega arith))

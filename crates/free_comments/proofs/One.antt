@@ -66,12 +66,12 @@ module _ (A : List Op) (bs : List ℕ) (B : List Op) where
   abbrev f : ℕ → ℕ
   f = skip a
 
-  module _ (input : List ℕ) (room : ℕ) where
+  module _ (mode : ℕ) (input : List ℕ) (room : ℕ) where
     abbrev g : Given
-    g = given os input room
+    g = given os mode input room
 
     abbrev g′ : Given
-    g′ = given os′ input room
+    g′ = given os′ mode input room
 
     -- a jump or a return may lead to the comment: once it is passed, the two are at the same op
     passed-placed : (s : State) → passed g′ (placed f s) ≡ placed f (passed g s)
@@ -96,7 +96,7 @@ module _ (A : List Op) (bs : List ℕ) (B : List Op) where
     step-free s h p =
         byCase (s .halted)
         (λ e. step-over g′ (placed f s) (or-first _ _ e) ∙ sym (ap (sent f) (step-over g s (or-first _ _ e))))
-        (λ e. step-sent A bs B input room s h (elsewhere s p e))
+        (λ e. step-sent A bs B mode input room s h (elsewhere s p e))
 
     -- what the two give from a state with its comments passed, where o is what its step gives
     abbrev Alike : ℕ → ℕ → State → Outcome → Type 0
@@ -129,8 +129,8 @@ module _ (A : List Op) (bs : List ℕ) (B : List Op) where
   fresh-placed cells = ap (goTo (fresh cells)) (skip-low a 0 zero-le)
 
   one-less : Same os os′ f
-  one-less input room cells b =
-      ap (run (given os′ input room) b) (sym (fresh-placed cells)) ∙ same-from input room b (fresh cells) (fresh-held (given os input room) cells)
+  one-less mode input room cells b =
+      ap (run (given os′ mode input room) b) (sym (fresh-placed cells)) ∙ same-from mode input room b (fresh cells) (fresh-held (given os mode input room) cells)
 
   -- ---- the other way
 
@@ -139,15 +139,15 @@ module _ (A : List Op) (bs : List ℕ) (B : List Op) where
   gap-each P k (x ∷ xs) h = ap₂ (λ (y : ℕ) (ys : List ℕ). y ∷ ys) (sym (gap-skip a x (k x (h .0)))) (gap-each P k xs (h .1))
 
   -- the run with the comment, told by the run without it
-  pub comment-added : (input : List ℕ) (room cells budget : ℕ)
-      → Added (length A) (run (given (A ++ B) input room) budget (fresh cells)) (run (given (A ++ plain (comment bs) ∷ B) input room) budget (fresh cells))
-  comment-added input room cells b =
-      let g = given os input room in
+  pub comment-added : (mode : ℕ) (input : List ℕ) (room cells budget : ℕ)
+      → Added (length A) (run (given (A ++ B) mode input room) budget (fresh cells)) (run (given (A ++ plain (comment bs) ∷ B) mode input room) budget (fresh cells))
+  comment-added mode input room cells b =
+      let g = given os mode input room in
       let r = run g b (fresh cells) in
       let h = run-held g b cells in
       let off : r .state .halted ≡ false → r .place ≡ a → ⊥
-      = λ z e. elsewhere input room (r .state) (run-passed g b (fresh cells)) z (sym (run-faithful g b (fresh cells) .stands) ∙ e) in
-      subst (λ (q : Answer). Added a q r) (sym (one-less input room cells b))
+      = λ z e. elsewhere mode input room (r .state) (run-passed g b (fresh cells)) z (sym (run-faithful g b (fresh cells) .stands) ∙ e) in
+      subst (λ (q : Answer). Added a q r) (sym (one-less mode input room cells b))
       (record {
         number = refl;
         lane = refl;

@@ -4,13 +4,14 @@ use native.Mathlib.Nat.{le-of-suc-le-suc, not-suc-le-zero}
 use native.Mathlib.Omega.{arith}
 use borrow.Author.Tests.{ltb-true, ltb-false, eqb-true, eqb-false, lt-ltb, le-ltb, eq-eqb, ne-eqb}
 use mathlib.Core.Path.{_≡_, refl, ap, ap₂, sym, _∙_}
-use mathlib.Core.Bool.{Bool, true, false, cond, _||_}
+use mathlib.Core.Bool.{Bool, true, false, cond, _||_, _&&_}
 use mathlib.Core.List.{List, [], _∷_, _++_, map, map-append}
 use mathlib.Core.Option.{Option, none, some}
 use lib.Dec.{leb, ltb, eqb}
 use lib.ListN.{length, take, getD}
 use lib.Seq.{getD-append-seam}
 use Rattle.basics.proofs.Clash.{clash}
+use Rattle.basics.proofs.Tests.{byCase, and-right}
 use Rattle.ops.specs.Syntax.{Op, Control, Plain, isFunction, isWhile}
 use Rattle.ops.specs.Syntax.Control.{function, call, ret, while, if, else, end}
 use Rattle.ops.specs.Syntax.Plain.{comment, store, move, swap, locate, offset, deref, refer, cell, lane, get, put, peek, poke, alloc, free}
@@ -18,13 +19,14 @@ use Rattle.ops.specs.Syntax.Op.{control, set, load, plain}
 use Rattle.testing_device.specs.Device.{getOf}
 use Rattle.testing_device.specs.declared.device.Got.{Got}
 use Rattle.testing_device.specs.declared.device.Got.the-variants.{Value, Empty}
-use Rattle.machine_model.specs.State.{State, Given, given, lane0, goTo, withTable, withCalls, on}
-use Rattle.machine_model.specs.Scan.{opAt, functions, kth}
-use Rattle.machine_model.specs.Step.{Outcome, lack, bar, pick, minus, enter, jump, endOf, called, found, back, again, turn, referTo, moveBy, gotten, peekAt, act, exec, op, step}
+use Rattle.machine_model.specs.State.{State, Given, given, rustTable, lane0, goTo, withTable, withCalls, on}
+use Rattle.machine_model.specs.Scan.{opAt}
+use Rattle.machine_model.specs.Step.{Outcome, lack, bar, pick, minus, enter, jump, endOf, routine, found, back, again, turn, referTo, moveBy, gotten, peekAt, act, exec, op, step}
 use Rattle.machine_model.specs.Step.Outcome.{finished, refused, next}
 use Rattle.machine_model.specs.Formed.{Each}
 use Rattle.machine_model.proofs.Each.{each-at}
-use Rattle.machine_model.proofs.Scans.{isControl, Landing, kth-is}
+use Rattle.machine_model.proofs.Scans.{isControl, Landing}
+use Rattle.machine_model.proofs.Meant.{routine-is}
 use Rattle.machine_model.proofs.Effects.{Places}
 use Rattle.free_comments.specs.Free.{skip, placed}
 use Rattle.free_comments.proofs.Skips.{skip-suc, skip-rises, at-skip}
@@ -73,8 +75,8 @@ module _ (f : ℕ → ℕ) where
     peek-sent [] = refl
     peek-sent (v ∷ vs) = cc
 
-    module _ (os os′ : List Op) (input : List ℕ) (room : ℕ) where
-      act-sent : (p : Plain) → act (given os′ input room) p (placed f s) ≡ sent f (act (given os input room) p s)
+    module _ (os os′ : List Op) (mode : ℕ) (input : List ℕ) (room : ℕ) where
+      act-sent : (p : Plain) → act (given os′ mode input room) p (placed f s) ≡ sent f (act (given os mode input room) p s)
       unfolding act
       act-sent (comment bs) = cc
       act-sent (store n) = lack-sent _ 23 _ _ _ cc
@@ -159,12 +161,12 @@ module _ (A : List Op) (bs : List ℕ) (B : List Op) where
   jump-sent u none none lost = refl
   jump-sent u (some j) (some j′) (hit n e) = ap (λ (p : ℕ). next (goTo (placed f u) p)) (ap suc e ∙ sym (skip-suc a j n))
 
-  module _ (input : List ℕ) (room : ℕ) (s : State) (places : Places os (Landing os) (s .calls) (s .table)) (off : s .at ≡ a → ⊥) where
+  module _ (mode : ℕ) (input : List ℕ) (room : ℕ) (s : State) (places : Places os (Landing os) (s .calls) (s .table)) (off : s .at ≡ a → ⊥) where
     abbrev g : Given
-    g = given os input room
+    g = given os mode input room
 
     abbrev g′ : Given
-    g′ = given os′ input room
+    g′ = given os′ mode input room
 
     abbrev s′ : State
     s′ = placed f s
@@ -177,28 +179,22 @@ module _ (A : List Op) (bs : List ℕ) (B : List Op) where
 
     -- ---- the control ops
 
-    -- a call of the mark m, with the table ts
-    called-sent : (m m′ : ℕ) (ts : List ℕ) → (m ≡ a → ⊥) → m′ ≡ f m → next (withTable (called s′ m′) (map f ts)) ≡ next (placed f (withTable (called s m) ts))
-    called-sent m m′ ts n e =
-        let p : suc m′ ≡ f (suc m) = ap suc e ∙ sym (skip-suc a m n) in
-        let q = map-append f (s .calls) (s .at ∷ []) in cc
+    -- which mark is meant, and its call
+    routine-met : Met a (routine mode (s .table) os (lane0 s)) (routine mode (map f (s .table)) os′ (lane0 s))
+    unfolding routine pick
+    routine-met =
+        rw (map-length f (s .table))
+        (byCase (eqb mode rustTable && ltb (lane0 s) (length (s .table)))
+        (λ e. let l : lane0 s < length (s .table) = ltb-true _ _ (and-right (eqb mode rustTable) _ e) in
+        rw e (hit (not-mark _ (each-at (λ m. isFunction (opAt os m) ≡ true) (s .table) (lane0 s) l (places .marked))) (map-at f (s .table) (lane0 s) l)))
+        (λ e. rw e (same-mark A bs B (lane0 s))))
 
     found-sent : (o o′ : Option ℕ) → Met a o o′ → ((m : ℕ) → o ≡ some m → isFunction (opAt os m) ≡ true) → found s′ o′ ≡ sent f (found s o)
     found-sent none none lost h = refl
     found-sent (some m) (some m′) (hit n e) h =
-        ap (λ (ts : List ℕ). next (withTable (called s′ m′) ts)) (ap (λ (x : ℕ). enter x (map f (s .table))) e ∙ entered m (s .table) (h m refl) (places .marked))
-        ∙ called-sent m m′ (enter m (s .table)) n e
-
-    which-sent : pick (ltb (lane0 s) (length (map f (s .table)))) (next (called s′ (getD (map f (s .table)) (lane0 s) 0))) (found s′ (kth 0 (lane0 s) (functions os′)))
-        ≡ sent f (pick (ltb (lane0 s) (length (s .table))) (next (called s (getD (s .table) (lane0 s) 0))) (found s (kth 0 (lane0 s) (functions os))))
-    which-sent =
-        rw (map-length f (s .table))
-        (pick-sent f (ltb (lane0 s) (length (s .table))) _ _ _ _
-        (λ e. let l : lane0 s < length (s .table) = ltb-true _ _ e in
-        called-sent (getD (s .table) (lane0 s) 0) _ (s .table)
-        (not-mark _ (each-at (λ m. isFunction (opAt os m) ≡ true) (s .table) (lane0 s) l (places .marked)))
-        (map-at f (s .table) (lane0 s) l))
-        (λ e. found-sent _ _ (same-mark A bs B (lane0 s)) (kth-is os (lane0 s))))
+        let p : suc m′ ≡ f (suc m) = ap suc e ∙ sym (skip-suc a m n) in
+        let q = map-append f (s .calls) (s .at ∷ []) in
+        let r = ap (λ (x : ℕ). enter x (map f (s .table))) e ∙ entered m (s .table) (h m refl) (places .marked) in cc
 
     back-sent : (cs : List ℕ) → Each (Landing os) cs → back s′ (map f cs) ≡ sent f (back s cs)
     back-sent [] h = let e = onto in cc
@@ -223,7 +219,7 @@ module _ (A : List Op) (bs : List ℕ) (B : List Op) where
     turn-sent function is =
         ap (λ (ts : List ℕ). jump (withTable s′ ts) (endOf g′ s′)) (entered (s .at) (s .table) (ap isFunction is) (places .marked))
         ∙ jump-sent (withTable s (enter (s .at) (s .table))) _ _ (same-end A bs B (s .at) off)
-    turn-sent call is = rw (map-length f (s .calls)) (bar-sent f _ 28 _ _ (bar-sent f _ 32 _ _ which-sent))
+    turn-sent call is = rw (map-length f (s .calls)) (bar-sent f _ 28 _ _ (bar-sent f _ 32 _ _ (found-sent _ _ routine-met (routine-is os mode (s .table) (lane0 s) (places .marked)))))
     turn-sent ret is = back-sent (s .calls) (places .saved)
     turn-sent while is = pick-sent f _ _ _ _ _ (λ e. jump-sent s _ _ (same-end A bs B (s .at) off)) (λ e. onward)
     turn-sent if is = pick-sent f _ _ _ _ _ (λ e. jump-sent s _ _ (same-else A bs B (s .at) off)) (λ e. onward)
@@ -237,7 +233,7 @@ module _ (A : List Op) (bs : List ℕ) (B : List Op) where
     exec-sent (control c) is = turn-sent c is
     exec-sent (set k vs) is = let e = onto in cc
     exec-sent (load n) is = lack-sent f _ 23 _ _ _ (let e = onto in cc)
-    exec-sent (plain p) is = act-sent f s onto os os′ input room p
+    exec-sent (plain p) is = act-sent f s onto os os′ mode input room p
 
     pub step-sent : step g′ s′ ≡ sent f (step g s)
     unfolding step op

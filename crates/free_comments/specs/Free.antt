@@ -45,11 +45,11 @@ answered f a = record { number = a .number; lane = a .lane; steps = a .steps; pl
 
 -- ---- two patches
 
--- from fresh, with any input, room, tape and budget: the second patch's run is the first's with its places moved
+-- from fresh, in any mode, with any input, room, tape and budget: the second patch's run is the first's with its places moved
 abbrev pub Same : List Op → List Op → (ℕ → ℕ) → Type 0
 Same os os′ f =
-    (input : List ℕ) (room cells budget : ℕ)
-    → run (given os′ input room) budget (fresh cells) ≡ answered f (run (given os input room) budget (fresh cells))
+    (mode : ℕ) (input : List ℕ) (room cells budget : ℕ)
+    → run (given os′ mode input room) budget (fresh cells) ≡ answered f (run (given os mode input room) budget (fresh cells))
 
 -- one comment at any place: with it and without it
 unfoldable pub CommentFree : Type 0
@@ -62,8 +62,8 @@ CommentsFree = (os : List Op) → Same os (bare os) (kept os)
 -- the run of a patch is 01's run of the patch without its comments
 unfoldable pub RunsBare : Type 0
 RunsBare =
-    (os : List Op) (input : List ℕ) (room cells budget : ℕ)
-    → runCounting (given (bare os) input room) budget (fresh cells) ≡ answered (kept os) (run (given os input room) budget (fresh cells))
+    (os : List Op) (mode : ℕ) (input : List ℕ) (room cells budget : ℕ)
+    → runCounting (given (bare os) mode input room) budget (fresh cells) ≡ answered (kept os) (run (given os mode input room) budget (fresh cells))
 
 -- the other way: r is the answer of a patch with an op put in at a, q that of the patch without it. A halted machine stands after its Return, and a
 -- comment there is not passed: its place is told by `CommentFree` alone

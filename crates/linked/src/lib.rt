@@ -40,7 +40,8 @@ pub extern "C" fn feltcairn_check(bytes: &[u8], answer: &mut [u64]) -> usize
     number
 }
 
-// The fresh run: number, place, steps, in which no comment counts, the count of outputs, and the first lane that could not be had.
+// The fresh run, in a call mode (0 the Rust's table, 1 by mark): number, place, steps, in which no comment counts, the count of outputs, and the first
+// lane that could not be had.
 #[no_mangle]
 pub extern "C" fn feltcairn_run_fresh(
     bytes: &[u8],
@@ -51,11 +52,22 @@ pub extern "C" fn feltcairn_run_fresh(
     input: &[u64],
     output: &mut [u64],
     budget: u32,
+    mode: u32,
     answer: &mut [u64],
 ) -> usize
-    ensures { λ r. ⌜ run r (now (answer .exit)) (slices (now (register .exit)) (now (tape .exit)) (now (table .exit)) (now (channel .exit)) (now (output .exit))) ≡ ofRun (freshCall (now (bytes .entry)) (now (input .entry)) budget (slices (now (register .entry)) (now (tape .entry)) (now (table .entry)) (now (channel .entry)) (now (output .entry)))) (now (answer .entry)) ⌝ }
+    ensures { λ r. ⌜ run r (now (answer .exit)) (slices (now (register .exit)) (now (tape .exit)) (now (table .exit)) (now (channel .exit)) (now (output .exit))) ≡ ofRun (freshCall (now (bytes .entry)) (now (input .entry)) budget mode (slices (now (register .entry)) (now (tape .entry)) (now (table .entry)) (now (channel .entry)) (now (output .entry)))) (now (answer .entry)) ⌝ }
 {
-    let r = Machine::run_fresh(bytes, register, tape, table, channel, input, output, budget);
+    let r = Machine::run_fresh(
+        bytes,
+        register,
+        tape,
+        table,
+        channel,
+        input,
+        output,
+        budget,
+        mode,
+    );
     let a = r.answer;
     let h = r.machine.numbers;
     let number = answers::run::number_of(a);

@@ -7,6 +7,7 @@ use native.Mathlib.Omega.{arith}
 use lib.ListN.{length, take, drop, length-map}
 use borrow.Author.Tests.{eq-eqb, ne-eqb, le-leb, not-true, not-false}
 use Rattle.basics.specs.Limits.{mostOps, mostMarks}
+use Rattle.basics.proofs.Tests.{and-left, and-right}
 use Rattle.byte_fields.specs.Storage.{fill}
 use Rattle.ops.specs.Patch.{rowIn, countIn, needIn, payloadIn, patchOf}
 use Rattle.answers.specs.declared.run.Answer.the-variants.{BadFile, NotAState}
@@ -22,22 +23,22 @@ use Rattle.bridge.specs.Run.{ran, runLaid, runOf}
 use Rattle.bridge.proofs.Decoded.{Bytes, many-rows}
 use Rattle.bridge.proofs.Runs.{run-laid}
 use Rattle.states.specs.Zeros.{zeroed}
-use Rattle.states.specs.Formed.{hasRoom, inLimits, inPlace, allOf, callsBelow, refsWithin, namesFrom, tableNames, isFormed}
+use Rattle.states.specs.Formed.{hasRoom, isMode, canStart, inLimits, inPlace, allOf, callsBelow, refsWithin, namesFrom, tableNames, isFormed}
 use Rattle.states.proofs.WellFormed.{formed-fits}
 use Rattle.machine.specs.Fresh.{freshOf}
 use Rattle.machine_run.specs.Ready.{IsLoaded, IsRead, ReadyToRun}
 use Rattle.machine.specs.Calls.{lent, runCall, freshOn, freshCall}
 use Rattle.machine.specs.declared.machine.Machine.{Machine}
 
--- the fresh machine is a state of every patch, where there is room
-fresh-state : (ks : List ℕ) (n : ℕ) (l : Slices) → hasRoom (l .register) (l .table) (l .channel) ≡ true → isFormed ks n (lent freshOf l) ≡ true
-unfolding isFormed inLimits inPlace callsBelow refsWithin allOf tableNames namesFrom freshOf
-fresh-state ks n l e = rw (e, le-leb 0 (length ks) (omega arith), le-leb 0 n (omega arith), le-leb 0 (length (l .output)) (omega arith)) refl
+-- the fresh machine is a state of every patch, where its mode is known and there is room
+fresh-state : (ks : List ℕ) (n mode : ℕ) (l : Slices) → canStart mode (l .register) (l .table) (l .channel) ≡ true → isFormed ks n (lent (freshOf mode) l) ≡ true
+unfolding isFormed inLimits inPlace callsBelow refsWithin allOf tableNames namesFrom freshOf canStart
+fresh-state ks n mode l e = rw (and-left (isMode mode) _ e, and-right (isMode mode) _ e, le-leb 0 (length ks) (omega arith), le-leb 0 n (omega arith), le-leb 0 (length (l .output)) (omega arith)) refl
 
 -- room is a matter of lengths
-as-long : (g g′ ts ch : List ℕ) → length g′ ≡ length g → hasRoom g′ ts ch ≡ hasRoom g ts ch
-unfolding hasRoom
-as-long g g′ ts ch e = rw e refl
+as-long : (mode : ℕ) (g g′ ts ch : List ℕ) → length g′ ≡ length g → canStart mode g′ ts ch ≡ canStart mode g ts ch
+unfolding canStart hasRoom
+as-long mode g g′ ts ch e = rw e refl
 
 -- the ops of what is read are few
 pub few-rows : (s : List ℕ) (x : Code) → IsRead s x → length (x .rows) ≤ mostOps
@@ -105,23 +106,24 @@ module _ (s input : List ℕ) where
         ∙ run-laid s input y n c (k .fits)
         ∙ rw (eq-eqb (patchOf s .number) 0 (h .good), ← tested, not-false b f) refl
 
-  -- ---- a fresh run, where b is the answer of the test of the lent room
+  -- ---- a fresh run, where b is the answer of the test of the mode and the lent room
 
-  module _ (r : Read) (q : r ≡ readOf (patchOf s)) (z : r .number ≡ 0) (m : Machine) (f : m ≡ freshOf) (d : Slices) (b : Bool) (e : b ≡ hasRoom (d .register) (d .table) (d .channel)) where
-    pub fresh-cramped : not b ≡ true → (n : ℕ) → ran NotAState 0 (lent m d) ≡ freshCall s input n d
+  module _ (r : Read) (q : r ≡ readOf (patchOf s)) (z : r .number ≡ 0) (m : Machine) (mode : ℕ) (f : m ≡ freshOf mode) (d : Slices) (b : Bool)
+      (e : b ≡ canStart mode (d .register) (d .table) (d .channel)) where
+    pub fresh-cramped : not b ≡ true → (n : ℕ) → ran NotAState 0 (lent m d) ≡ freshCall s input n mode d
     unfolding freshCall
     fresh-cramped h n = rw (f, eq-eqb (patchOf s .number) 0 (good-file s r q z), ← e, not-true b h) refl
 
     -- the run of the fresh machine over the zeros that are written
     pub fresh-called : not b ≡ false → (g′ t′ : List ℕ) → g′ ≡ zeroed 1024 (d .register) → t′ ≡ zeroed (length (d .tape)) (d .tape)
         → length g′ ≡ length (d .register) → (n : ℕ)
-        → runCall s input n (lent m (slices g′ t′ (d .table) (d .channel) (d .output))) ≡ freshCall s input n d
+        → runCall s input n (lent m (slices g′ t′ (d .table) (d .channel) (d .output))) ≡ freshCall s input n mode d
     unfolding runCall freshCall
     fresh-called h g′ t′ zg zt k n =
         let w = slices g′ t′ (d .table) (d .channel) (d .output) in
-        let over : lent m w ≡ freshOn d = rw (f, zg, zt) refl in
-        let c : isFormed (codeOf s .rows) (length input) (lent freshOf w) ≡ true
-        = fresh-state (codeOf s .rows) (length input) w (as-long (d .register) g′ (d .table) (d .channel) k ∙ sym e ∙ not-false b h) in
+        let over : lent m w ≡ freshOn mode d = rw (f, zg, zt) refl in
+        let c : isFormed (codeOf s .rows) (length input) (lent (freshOf mode) w) ≡ true
+        = fresh-state (codeOf s .rows) (length input) mode w (as-long mode (d .register) g′ (d .table) (d .channel) k ∙ sym e ∙ not-false b h) in
         let o : isFormed (codeOf s .rows) (length input) (lent m w) ≡ true = rw f c in
         rw (eq-eqb (patchOf s .number) 0 (good-file s r q z), o, ← e, not-false b h)
         (ap (λ (c : Held). runLaid (givenTo s input c) n c) over)
@@ -133,6 +135,6 @@ module _ (s input : List ℕ) where
     unfolding runCall
     run-bad n c = rw (number-is s r q, bad-place s r q z, ne-eqb (patchOf s .number) 0 (bad-file s r q z)) refl
 
-    pub fresh-bad : (m : Machine) → m ≡ freshOf → (n : ℕ) (d : Slices) → ran (BadFile (r .number) (r .place)) 0 (lent m d) ≡ freshCall s input n d
+    pub fresh-bad : (m : Machine) (mode : ℕ) → m ≡ freshOf mode → (n : ℕ) (d : Slices) → ran (BadFile (r .number) (r .place)) 0 (lent m d) ≡ freshCall s input n mode d
     unfolding freshCall
-    fresh-bad m f n d = rw (f, number-is s r q, bad-place s r q z, ne-eqb (patchOf s .number) 0 (bad-file s r q z)) refl
+    fresh-bad m mode f n d = rw (f, number-is s r q, bad-place s r q z, ne-eqb (patchOf s .number) 0 (bad-file s r q z)) refl

@@ -15,7 +15,7 @@ use Rattle.machine_step.specs.Held.{Slices, slices, Held, held}
 use Rattle.bridge.specs.View.{view, lay}
 use Rattle.bridge.specs.Decoded.{codeOf, givenTo}
 use Rattle.bridge.specs.Run.{Ran, ran, passedIn, runLaid}
-use Rattle.states.specs.Formed.{hasRoom, isFormed}
+use Rattle.states.specs.Formed.{canStart, isFormed}
 use Rattle.states.specs.Zeros.{zeroed}
 use Rattle.machine.specs.Fresh.{freshOf}
 use Rattle.machine.specs.declared.machine.Machine.{Machine}
@@ -71,10 +71,11 @@ ranTo r l = ran (r .answer) (r .steps) (lent (r .machine) l)
 -- ---- the fresh run
 
 -- "The fresh run, if nothing is refused before its steps, first writes zeros to the lent tape", and to the 1,024 lanes
-abbrev pub freshOn : Slices → Held
-freshOn l = lent freshOf (slices (zeroed limit.lanes (l .register)) (zeroed (length (l .tape)) (l .tape)) (l .table) (l .channel) (l .output))
+abbrev pub freshOn : ℕ → Slices → Held
+freshOn mode l = lent (freshOf mode) (slices (zeroed limit.lanes (l .register)) (zeroed (length (l .tape)) (l .tape)) (l .table) (l .channel) (l .output))
 
-unfoldable pub freshCall : List ℕ → List ℕ → ℕ → Slices → Ran
+unfoldable pub freshCall : List ℕ → List ℕ → ℕ → ℕ → Slices → Ran
 unfolding runLaid
-freshCall s input b l =
-    calling s (hasRoom (l .register) (l .table) (l .channel)) (λ a. ran a 0 (lent freshOf l)) (runLaid (givenTo s input (freshOn l)) b (freshOn l))
+freshCall s input b mode l =
+    calling s (canStart mode (l .register) (l .table) (l .channel)) (λ a. ran a 0 (lent (freshOf mode) l))
+    (runLaid (givenTo s input (freshOn mode l)) b (freshOn mode l))

@@ -1,6 +1,6 @@
 -- The limits of the machine, and the fresh machine. Assumes nothing.
 use mathlib.Core.Bool.{false}
-use Prim.Native.Nat.{_-_, _^_}
+use Prim.Native.Nat.{ℕ, _-_, _^_}
 use lib.ListN.{replicate}
 use Rattle.basics.specs.Limits as limit
 use Rattle.machine.specs.declared.machine.Capacities.{Capacities}
@@ -22,11 +22,12 @@ limitsOf =
       budget = 2 ^ 32 - 1;
     }
 
--- "Fresh: 1,024 zero lanes; pointer, position and counted length 0; stacks, table and channel empty; input place and output count 0; not halted"
-unfoldable pub freshOf : Machine
-freshOf =
+-- "Fresh: 1,024 zero lanes; pointer, position and counted length 0; stacks, table and channel empty; input place and output count 0; not halted";
+-- 02, ask 4: the call mode is "chosen when a run starts and kept in the state"
+unfoldable pub freshOf : ℕ → Machine
+freshOf mode =
     record {
       calls = replicate limit.depth 0;
       refs = replicate limit.depth 0;
-      numbers = record { depth = 0; saved = 0; pointer = 0; position = 0; length = 0; lanes = limit.lanes; functions = 0; first = 0; waiting = 0; taken = 0; written = 0; halted = false };
+      numbers = record { depth = 0; saved = 0; pointer = 0; position = 0; length = 0; lanes = limit.lanes; functions = 0; first = 0; waiting = 0; taken = 0; written = 0; halted = false; mode = mode };
     }

@@ -1,4 +1,4 @@
-// The fresh run: it reads the patch first, then tests the lent room, then writes its zeros and works as any run.
+// The fresh run: it reads the patch first, then tests the call mode and the lent room, then writes its zeros and works as any run.
 ghost use mathlib.Core.Path.{_≡_};
 ghost use Prim.Native.Nat.{ℕ};
 ghost use Rattle.machine_step.specs.Held.{slices};
@@ -7,11 +7,11 @@ use crate::machine::Machine;
 use crate::machine::Ran;
 use answers::run::Answer;
 use patch_reader::reader::load;
-use states::formed::has_room;
+use states::formed::can_start;
 use states::zeros::zero;
 
 impl Machine {
-    // Zeros to the register's lanes and to the tape, and then a run from the fresh machine.
+    // Zeros to the register's lanes and to the tape, and then a run from the fresh machine, which keeps the call mode.
     pub fn run_fresh(
         bytes: &[u8],
         register: &mut [u64],
@@ -21,14 +21,15 @@ impl Machine {
         input: &[u64],
         output: &mut [u64],
         budget: u32,
+        mode: u32,
     ) -> Ran
-        ensures { λ r. ⌜ ranTo r (slices (now (register .exit)) (now (tape .exit)) (now (table .exit)) (now (channel .exit)) (now (output .exit))) ≡ freshCall (now (bytes .entry)) (now (input .entry)) budget (slices (now (register .entry)) (now (tape .entry)) (now (table .entry)) (now (channel .entry)) (now (output .entry))) ⌝ }
+        ensures { λ r. ⌜ ranTo r (slices (now (register .exit)) (now (tape .exit)) (now (table .exit)) (now (channel .exit)) (now (output .exit))) ≡ freshCall (now (bytes .entry)) (now (input .entry)) budget mode (slices (now (register .entry)) (now (tape .entry)) (now (table .entry)) (now (channel .entry)) (now (output .entry))) ⌝ }
     {
         let mut rows = [0u8; Machine::OPS];
         let mut counts = [0u16; Machine::OPS];
         let mut needs = [0u16; Machine::OPS];
         let mut payloads = [0u32; Machine::OPS];
-        let m = Machine::fresh();
+        let m = Machine::fresh(mode);
         let read = load(bytes, &mut rows, &mut counts, &mut needs, &mut payloads);
         let number = read.number;
         if number != 0 {
@@ -38,7 +39,7 @@ impl Machine {
                 machine: m,
             };
         }
-        if !has_room(register, table, channel) {
+        if !can_start(mode, register, table, channel) {
             return Ran {
                 answer: Answer::NotAState,
                 steps: 0,

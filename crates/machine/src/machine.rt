@@ -74,8 +74,13 @@ impl Machine {
         }
     }
 
-    pub fn fresh() -> Machine
-        ensures { λ r. ⌜ r ≡ freshOf ⌝ }
+    // The call modes: a Call asks the Rust's table, or means the mark.
+    pub const RUST_TABLE: u32 = machine_numbers::numbers::RUST_TABLE;
+
+    pub const BY_MARK: u32 = machine_numbers::numbers::BY_MARK;
+
+    pub fn fresh(mode: u32) -> Machine
+        ensures { λ r. ⌜ r ≡ freshOf mode ⌝ }
     {
         Machine {
             calls: [0u16; Machine::CALLS],
@@ -93,6 +98,7 @@ impl Machine {
                 taken: 0,
                 written: 0,
                 halted: false,
+                mode,
             },
         }
     }

@@ -11,12 +11,13 @@ use Rattle.ops.specs.Syntax.Control.{function, call, ret, while, if, else, end}
 use Rattle.ops.specs.Syntax.Plain.{comment, store, move, locate, offset, deref, refer, cell, lane, get, put, peek, poke, alloc}
 use Rattle.ops.specs.Syntax.Sort.{ints}
 use Rattle.ops.specs.Syntax.Op.{control, set, load, plain}
-use Rattle.machine_model.specs.State.{fresh, withTape, lane0}
+use Rattle.machine_model.specs.State.{given, rustTable, byMark, fresh, withTape, lane0}
 use Rattle.machine_model.specs.Run.{Answer, run}
 
--- a run from the fresh state: the lent tape, the room for outputs and the budget, the ops, and what is seen of the answer: number, steps and
--- place, then lane 0, pointer, counted length and outputs
+-- a run from the fresh state: the call mode, the lent tape, the room for outputs and the budget, the ops, and what is seen of the answer: number, steps
+-- and place, then lane 0, pointer, counted length and outputs
 pub record Case : Type 0 where
+  pub mode : ℕ
   pub tape : List ℕ
   pub room : ℕ
   pub budget : ℕ
@@ -25,22 +26,26 @@ pub record Case : Type 0 where
 
 -- four cells of tape, room for four outputs, and a budget that suffices
 ran : List Op → List ℕ → Case
-ran os l = record { tape = 0 ∷ 0 ∷ 0 ∷ 0 ∷ []; room = 4; budget = 100_000; ops = os; seen = l }
+ran os l = record { mode = rustTable; tape = 0 ∷ 0 ∷ 0 ∷ 0 ∷ []; room = 4; budget = 100_000; ops = os; seen = l }
 
 -- the same with a budget
 within : ℕ → List Op → List ℕ → Case
-within b os l = record { tape = 0 ∷ 0 ∷ 0 ∷ 0 ∷ []; room = 4; budget = b; ops = os; seen = l }
+within b os l = record { mode = rustTable; tape = 0 ∷ 0 ∷ 0 ∷ 0 ∷ []; room = 4; budget = b; ops = os; seen = l }
+
+-- the same as at first, by mark
+marking : List Op → List ℕ → Case
+marking os l = record { mode = byMark; tape = 0 ∷ 0 ∷ 0 ∷ 0 ∷ []; room = 4; budget = 100_000; ops = os; seen = l }
 
 -- the same over one lent cell, with no room for outputs
 upon : ℕ → List Op → List ℕ → Case
-upon v os l = record { tape = v ∷ []; room = 0; budget = 100_000; ops = os; seen = l }
+upon v os l = record { mode = rustTable; tape = v ∷ []; room = 0; budget = 100_000; ops = os; seen = l }
 
 unfoldable pub show : Answer → List ℕ
 show a = a .number ∷ a .steps ∷ a .place ∷ lane0 (a .state) ∷ a .state .pointer ∷ a .state .counted ∷ a .state .outs
 
 unfoldable pub tried : Case → List ℕ
 unfolding show run fresh
-tried c = show (run (record { ops = c .ops; input = []; room = c .room }) (c .budget) (withTape (fresh 0) (c .tape)))
+tried c = show (run (given (c .ops) (c .mode) [] (c .room)) (c .budget) (withTape (fresh 0) (c .tape)))
 
 unfoldable pub one : ℕ → Op
 one v = set ints (v ∷ [])
@@ -167,6 +172,27 @@ notes =
     ∷ within 5 calling (50 ∷ 5 ∷ 3 ∷ 65 ∷ 0 ∷ 0 ∷ 65 ∷ [])
     ∷ []
 
+-- ---- 02, ask 4: by mark
+
+-- `fun, set [65], put, ret, end` inside a function that has more to do, and a function after it
+nest : List Op
+unfolding one out
+nest =
+    control function ∷ control function ∷ one 65 ∷ out ∷ control ret ∷ control end ∷ one 66 ∷ out ∷ control ret ∷ control end
+    ∷ control function ∷ one 67 ∷ out ∷ control ret ∷ control end ∷ []
+
+-- "nested ones too", in file order, whatever the table holds; 29 where there are not so many; 28 and 32 before it
+by-mark : List Case
+unfolding marking one nest minus
+by-mark =
+    marking (one 1 ∷ control call ∷ one 2 ∷ control call ∷ control ret ∷ nest) (0 ∷ 11 ∷ 5 ∷ 67 ∷ 0 ∷ 0 ∷ 65 ∷ 67 ∷ [])
+    ∷ marking (nest ++ one 1 ∷ control call ∷ one 2 ∷ control call ∷ []) (0 ∷ 12 ∷ 19 ∷ 67 ∷ 0 ∷ 0 ∷ 65 ∷ 67 ∷ [])
+    ∷ ran (nest ++ one 1 ∷ control call ∷ one 2 ∷ control call ∷ []) (0 ∷ 12 ∷ 19 ∷ 67 ∷ 0 ∷ 0 ∷ 67 ∷ 67 ∷ [])
+    ∷ marking (nest ++ one 3 ∷ control call ∷ []) (29 ∷ 3 ∷ 16 ∷ 3 ∷ 0 ∷ 0 ∷ [])
+    ∷ marking (one (minus 1) ∷ control call ∷ []) (28 ∷ 1 ∷ 1 ∷ minus 1 ∷ 0 ∷ 0 ∷ [])
+    ∷ marking (control call ∷ control function ∷ control call ∷ control end ∷ []) (32 ∷ 256 ∷ 2 ∷ 0 ∷ 0 ∷ 0 ∷ [])
+    ∷ []
+
 -- ---- every refusal of a step, with its place; earlier steps stand, and the refused one leaves nothing
 refusals : List Case
 unfolding ran upon one out minus
@@ -203,7 +229,7 @@ refusals =
 
 unfoldable pub lane-tried : Case → List ℕ
 unfolding run fresh
-lane-tried c = let a = run (record { ops = c .ops; input = []; room = c .room }) (c .budget) (withTape (fresh 0) (c .tape)) in a .number ∷ a .lane ∷ []
+lane-tried c = let a = run (given (c .ops) (c .mode) [] (c .room)) (c .budget) (withTape (fresh 0) (c .tape)) in a .number ∷ a .lane ∷ []
 
 -- 21 with the register's length, 22 with the cells to the end of the counted length, which the lent tape does not shorten, 23 with those to the end of
 -- the tape; the first lane and a later one; a pointer beyond the end; and the lane 0 of the others, 0 and 50 among them
@@ -229,8 +255,8 @@ unfolding lane-tried lanes
 all-lanes = refl
 
 unfoldable pub cases : List Case
-unfolding loops ifs elses functions tapes talks budgets notes refusals
-cases = loops ++ ifs ++ elses ++ functions ++ tapes ++ talks ++ budgets ++ notes ++ refusals
+unfolding loops ifs elses functions tapes talks budgets notes by-mark refusals
+cases = loops ++ ifs ++ elses ++ functions ++ tapes ++ talks ++ budgets ++ notes ++ by-mark ++ refusals
 
 all : map tried cases ≡ map (λ c. c .seen) cases
 unfolding tried cases

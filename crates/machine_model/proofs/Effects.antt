@@ -32,17 +32,18 @@ use Rattle.testing_device.proofs.Inputs.{Bounded, leading-length, get-bounded}
 use Rattle.testing_device.proofs.Inputs.Bounded.{value}
 use Rattle.testing_device.proofs.Outputs.{put-words}
 use Rattle.machine_model.specs.State.{State, Given, lanes, depth, farthest, longest, firstBlock, lane0, goTo, on, withTable}
-use Rattle.machine_model.specs.Scan.{opAt, brackets, functions, toOpen, kth}
-use Rattle.machine_model.specs.Step.{Outcome, lack, bar, enter, jump, endOf, elseOf, called, found, back, again, turn, minus, cover, beyond, ahead, cells, grown, referTo, moveBy, gotten, peekAt, act, exec, op, pick, step}
+use Rattle.machine_model.specs.Scan.{opAt, brackets, toOpen}
+use Rattle.machine_model.specs.Step.{Outcome, lack, bar, enter, jump, endOf, elseOf, called, routine, found, back, again, turn, minus, cover, beyond, ahead, cells, grown, referTo, moveBy, gotten, peekAt, act, exec, op, pick, step}
 use Rattle.machine_model.specs.Step.Outcome.{finished, next}
 use Rattle.machine_model.specs.Formed.{Each, Rising, Whole, Formed}
 use Rattle.machine_model.specs.Words.{Word, Words}
 use Rattle.machine_model.specs.Missing.{AsksCells, FirstMissing, FirstCell}
 use Rattle.machine_model.specs.Missing.AsksCells.{loads, stores, swaps, combines, derefs}
 use Rattle.machine_model.proofs.Each.{each-part, each-end, each-take, each-at, each-getD, each-map, each-zip}
-use Rattle.machine_model.proofs.Scans.{isControl, Landing, function-lands, while-lands, mark-lands, Seeks, end-seeks, else-seeks, kth-is}
+use Rattle.machine_model.proofs.Scans.{isControl, Landing, function-lands, while-lands, mark-lands, Seeks, end-seeks, else-seeks}
 use Rattle.machine_model.proofs.Scans.Seeks.{nowhere, arrives}
 use Rattle.machine_model.proofs.Table.{each-enter, rising-enter}
+use Rattle.machine_model.proofs.Meant.{routine-is}
 use Rattle.machine_model.proofs.Outcomes.{Gives, lack-gives, bar-gives, pick-gives}
 use Rattle.machine_model.proofs.Outcomes.Gives.{ended, stopped, goes}
 
@@ -242,9 +243,10 @@ module _ (g : Given) (Q : ℕ → Type 0) (lands : (j : ℕ) → Landing (g .ops
         let few : length (s .calls ++ (s .at ∷ [])) ≤ depth = omega (arith, leb-false, length-append (s .calls) (s .at ∷ [])) in
         (lands m (function-lands (g .ops) m (h .0)), search (each-end, here)))
 
-    found-in : leb depth (length (s .calls)) ≡ false → (r : Option ℕ) → ((m : ℕ) → r ≡ some m → isFunction (opAt (g .ops) m) ≡ true) → Does (control c) (found s r)
+    found-in : leb depth (length (s .calls)) ≡ false → (r : Option ℕ)
+        → (Placed (s .calls) (s .table) → (m : ℕ) → r ≡ some m → isFunction (opAt (g .ops) m) ≡ true) → Does (control c) (found s r)
     found-in e none h = stopped (other refl)
-    found-in e (some m) h = calls-in e (λ p. (h m refl, entered m (h m refl) p))
+    found-in e (some m) h = calls-in e (λ p. (h p m refl, entered m (h p m refl) p))
 
     back-in : (cs : List ℕ) → s .calls ≡ cs → Does (control c) (back s cs)
     back-in [] e = goes-after (λ p. (here, p))
@@ -267,10 +269,7 @@ module _ (g : Given) (Q : ℕ → Type 0) (lands : (j : ℕ) → Landing (g .ops
   turn-does function is = jumps is (enter (s .at) (s .table)) (endOf g s) (inl refl) (entered (s .at) (ap isFunction is)) (end-seeks _ _ _)
   turn-does call is =
       refuses 28 refl
-      (λ _. refuses 32 refl
-      (λ e. pick-gives
-      (λ l. calls-in is e (λ p. (each-at _ (s .table) (lane0 s) (ltb-true _ _ l) (p .marked), p)))
-      (λ _. found-in is e (kth 0 (lane0 s) (functions (g .ops))) (kth-is (g .ops) (lane0 s)))))
+      (λ _. refuses 32 refl (λ e. found-in is e (routine (g .mode) (s .table) (g .ops) (lane0 s)) (λ p. routine-is (g .ops) (g .mode) (s .table) (lane0 s) (p .marked))))
   turn-does ret is = back-in is (s .calls) refl
   turn-does if is = pick-gives (λ _. jumps is (s .table) (elseOf g s) (inl refl) (λ p. p) (else-seeks _ _ _)) (λ _. goes-on is)
   turn-does while is = pick-gives (λ _. jumps is (s .table) (endOf g s) (inl refl) (λ p. p) (end-seeks _ _ _)) (λ _. goes-on is)

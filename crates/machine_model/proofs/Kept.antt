@@ -7,7 +7,7 @@ use lib.ListN.{length, length-replicate}
 use Rattle.ops.specs.Syntax.{Op}
 use Rattle.ops.specs.Syntax.Op.{control, set, load, plain}
 use Rattle.ops.specs.Write.{Fits}
-use Rattle.machine_model.specs.State.{State, Given, fresh, mostMarks, lanes, farthest}
+use Rattle.machine_model.specs.State.{State, Given, byMark, fresh, mostMarks, lanes, farthest}
 use Rattle.machine_model.specs.Step.{step}
 use Rattle.machine_model.specs.Step.Outcome.{next}
 use Rattle.machine_model.specs.Run.{run}
@@ -30,14 +30,14 @@ module _ (g : Given) (lim : Limited (g .ops)) where
   abbrev Inner : ℕ → Type 0
   Inner c = c < length (g .ops)
 
-  formed : (t : State) → t .at ≤ length (g .ops) → Places (g .ops) Inner (t .calls) (t .table) → length (t .reg) ≤ lanes
+  formed : (t : State) → g .mode ≤ byMark → t .at ≤ length (g .ops) → Places (g .ops) Inner (t .calls) (t .table) → length (t .reg) ≤ lanes
       → Sizes g (t .pointer) (t .counted) (t .refs) (t .channel) (t .taken) (t .outs) → Each (λ x. x ≤ farthest) (t .refs) → Whole (t .counted) → Formed g t
-  formed t a p r z q w = let few : length (t .table) ≤ mostMarks = omega (arith, marks-few g (t .table) (p .rising) (p .marked), lim .few-marks) in search
+  formed t y a p r z q w = let few : length (t .table) ≤ mostMarks = omega (arith, marks-few g (t .table) (p .rising) (p .marked), lim .few-marks) in search
 
   effect-formed : (s t : State) (o : Op) → Fits o → Formed g s → Effect g Inner s o t → Formed g t
-  effect-formed s _ _ h f (turns j ts cs b k) = let p = k (search) in formed _ (p .0) (p .1) (f .narrow) (omega arith) (f .pointed) (f .whole)
+  effect-formed s _ _ h f (turns j ts cs b k) = let p = k (search) in formed _ (f .known) (p .0) (p .1) (f .narrow) (omega arith) (f .pointed) (f .whole)
   effect-formed s _ o h f (acts p n r m rs ch k os a e w z) =
-      let q = z f h in formed _ a (search) (omega (arith, made-few o (length (s .reg)) h (f .narrow))) (q .0) (q .1) (w (f .whole))
+      let q = z f h in formed _ (f .known) a (search) (omega (arith, made-few o (length (s .reg)) h (f .narrow))) (q .0) (q .1) (w (f .whole))
 
   -- a step of a patch within the limits leads from a well-formed state to one
   pub step-formed : (s t : State) → Formed g s → step g s ≡ next t → Formed g t
@@ -48,7 +48,7 @@ module _ (g : Given) (lim : Limited (g .ops)) where
   pub run-formed : (b : ℕ) (s : State) → Formed g s → Formed g ((run g b s) .state)
   run-formed b s f = run-keeps (λ n. Unit {0}) (Formed g) tt tt g (λ t n l h e. tt) step-formed b s f .1
 
--- the fresh state is well formed, for any patch, input, room and number of cells
-pub fresh-formed : (g : Given) (cells : ℕ) → Formed g (fresh cells)
+-- the fresh state is well formed, for any patch, known mode, input, room and number of cells
+pub fresh-formed : (g : Given) (cells : ℕ) → g .mode ≤ byMark → Formed g (fresh cells)
 unfolding fresh
-fresh-formed g cells = let n : length (fresh cells .reg) ≤ lanes = omega (arith, length-replicate {A = ℕ} lanes 0) in search (zero-le, inl)
+fresh-formed g cells y = let n : length (fresh cells .reg) ≤ lanes = omega (arith, length-replicate {A = ℕ} lanes 0) in search (zero-le, inl)

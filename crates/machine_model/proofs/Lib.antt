@@ -2,10 +2,12 @@ pub mod Each
 pub mod Scans
 pub mod Stacks
 pub mod Table
+pub mod Meant
 pub mod Passing
 pub mod Outcomes
 pub mod Effects
 pub mod Kept
+pub mod Modes
 pub mod Lengths
 pub mod WordsKept
 pub mod Refused

@@ -1,5 +1,5 @@
 -- Where a search arrives: the places that it gives lie in the patch and are those of control ops, and the k-th mark is one. Assumes nothing.
-use Prim.Native.Nat.{ℕ, zero, suc, _+_, _<_}
+use Prim.Native.Nat.{ℕ, zero, suc, _+_, _≤_, _<_}
 use native.Mathlib.Omega.{arith}
 use mathlib.Core.Path.{_≡_, refl, ap, sym, _∙_}
 use mathlib.Core.Bool.{Bool, true, false}
@@ -12,7 +12,7 @@ use Rattle.ops.specs.Syntax.Op.{control, set, load, plain}
 use Rattle.ops.specs.Syntax.Plain.{comment}
 use Rattle.ops.specs.Syntax.Bracket.{up, down, mid, flat}
 use Rattle.basics.proofs.Clash.{clash}
-use Rattle.machine_model.specs.Scan.{opAt, brackets, functions, toEnd, toElse, kth}
+use Rattle.machine_model.specs.Scan.{opAt, brackets, functions, toEnd, toElse, kth, placesFrom}
 
 pub length-brackets : (os : List Op) → length (brackets os) ≡ length os
 length-brackets [] = refl
@@ -143,3 +143,30 @@ pub kth-is : (os : List Op) (k j : ℕ) → kth 0 k (functions os) ≡ some j �
 kth-is os k j e =
     let r = kth-true 0 k (functions os) j e in
     sym (functions-at os j) ∙ ap (λ i. getD (functions os) i false) (omega arith) ∙ r .2
+
+-- ---- the places of the marks
+
+-- the n-th of a list
+abbrev pub nth : ℕ → List ℕ → Option ℕ
+nth n [] = none
+nth zero (x ∷ xs) = some x
+nth (suc n) (x ∷ xs) = nth n xs
+
+pub nth-inside : (k : ℕ) (xs : List ℕ) → k < length xs → nth k xs ≡ some (getD xs k 0)
+nth-inside k [] h = absurd (omega arith)
+nth-inside zero (x ∷ xs) h = refl
+nth-inside (suc k) (x ∷ xs) h = nth-inside k xs (omega arith)
+
+pub nth-outside : (k : ℕ) (xs : List ℕ) → length xs ≤ k → nth k xs ≡ none
+nth-outside k [] h = refl
+nth-outside zero (x ∷ xs) h = absurd (omega arith)
+nth-outside (suc k) (x ∷ xs) h = nth-outside k xs (omega arith)
+
+pub kth-nth : (p k : ℕ) (bs : List Bool) → kth p k bs ≡ nth k (placesFrom p bs)
+unfolding kth
+kth-nth p zero [] = refl
+kth-nth p (suc k) [] = refl
+kth-nth p zero (true ∷ bs) = refl
+kth-nth p (suc k) (true ∷ bs) = kth-nth (suc p) k bs
+kth-nth p zero (false ∷ bs) = kth-nth (suc p) zero bs
+kth-nth p (suc k) (false ∷ bs) = kth-nth (suc p) (suc k) bs

@@ -6,7 +6,7 @@ use mathlib.Core.List.{List, [], _∷_}
 use mathlib.Core.Logic.{_⊎_}
 use lib.ListN.{length}
 use Rattle.ops.specs.Syntax.{isFunction}
-use Rattle.machine_model.specs.State.{State, Given, mostMarks, lanes, depth, farthest, longest, firstBlock}
+use Rattle.machine_model.specs.State.{State, Given, byMark, mostMarks, lanes, depth, farthest, longest, firstBlock}
 use Rattle.machine_model.specs.Scan.{opAt}
 
 -- every number of the list has the property
@@ -29,7 +29,7 @@ Whole n = (n ≡ 0) ⊎ (firstBlock ≤ n)
 
 -- "A state is well formed when its limits hold, position is at most the op count, saved calls are below the op count, saved pointers within
 -- limit, the function table rises strictly and names Function marks, input place and output count fit their slices"; and
--- by 02, ask 12, the well-formed state "excludes those lengths", 1 to 29,999
+-- by 02, ask 12, the well-formed state "excludes those lengths", 1 to 29,999; by 02, ask 4, "37 also for an unknown mode"
 pub record Formed (g : Given) (s : State) : Type 0 where
   pub near : s .pointer ≤ farthest
   pub short : s .counted ≤ longest
@@ -46,3 +46,4 @@ pub record Formed (g : Given) (s : State) : Type 0 where
   pub marked : Each (Marked g) (s .table)
   pub read : s .taken ≤ length (g .input)
   pub fits : length (s .outs) ≤ g .room
+  pub known : g .mode ≤ byMark

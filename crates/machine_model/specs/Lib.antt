@@ -6,5 +6,6 @@ pub mod Passed
 pub mod Run
 pub mod Missing
 pub mod Formed
+pub mod Modes
 pub mod Limited
 pub mod Words

@@ -58,3 +58,12 @@ kth p k [] = none
 kth p k (false ∷ bs) = kth (suc p) k bs
 kth p zero (true ∷ bs) = some p
 kth p (suc k) (true ∷ bs) = kth (suc p) k bs
+
+-- the places of the marks: "every Function op in file order, nested ones too"; p is the place of the list's first
+abbrev pub placesFrom : ℕ → List Bool → List ℕ
+placesFrom p [] = []
+placesFrom p (true ∷ bs) = p ∷ placesFrom (suc p) bs
+placesFrom p (false ∷ bs) = placesFrom (suc p) bs
+
+abbrev pub marks : List Op → List ℕ
+marks os = placesFrom 0 (functions os)

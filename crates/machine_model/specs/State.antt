@@ -7,14 +7,22 @@ use lib.ListN
 pub use Rattle.basics.specs.Limits.{mostOps, mostMarks, lanes, depth, farthest, longest, firstBlock}
 use Rattle.ops.specs.Syntax.{Op}
 
--- what a run is given and does not change: the ops, the input values, and the room for outputs
+-- 02, ask 4: "Add a second call mode, chosen when a run starts and kept in the state". The Rust's table, and by mark; no step changes it
+abbrev pub rustTable : ℕ
+rustTable = 0
+
+abbrev pub byMark : ℕ
+byMark = 1
+
+-- what a run is given and does not change: the ops, the call mode, the input values, and the room for outputs
 pub record Given : Type 0 where
   pub ops : List Op
+  pub mode : ℕ
   pub input : List ℕ
   pub room : ℕ
 
-abbrev pub given : List Op → List ℕ → ℕ → Given
-given os input room = record { ops = os; input = input; room = room }
+abbrev pub given : List Op → ℕ → List ℕ → ℕ → Given
+given os mode input room = record { ops = os; mode = mode; input = input; room = room }
 
 -- position, pointer and counted length; register, lent tape and function table; the saved calls, the saved pointers and the channel, the
 -- newest last; the input place, the outputs, and whether it has halted

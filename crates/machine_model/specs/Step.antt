@@ -21,7 +21,7 @@ use Rattle.testing_device.specs.declared.device.Got.the-variants as got
 use Rattle.testing_device.specs.declared.device.Put.the-variants as put
 use Rattle.testing_device.specs.declared.device.Peeked.the-variants as peeked
 use Rattle.testing_device.specs.declared.device.Poked.the-variants as poked
-use Rattle.machine_model.specs.State.{State, Given, depth, farthest, longest, firstBlock, lane0, goTo, withPointer, withCounted, withReg, withTape, withTable, withCalls, withRefs, withChannel, withTaken, withOuts, halt, on, setLane}
+use Rattle.machine_model.specs.State.{State, Given, rustTable, depth, farthest, longest, firstBlock, lane0, goTo, withPointer, withCounted, withReg, withTape, withTable, withCalls, withRefs, withChannel, withTaken, withOuts, halt, on, setLane}
 use Rattle.machine_model.specs.Scan.{opAt, brackets, functions, toEnd, toElse, toOpen, kth}
 
 -- what a step gives: the machine is finished, it is refused with a number and a lane, or it goes on in the next state
@@ -68,7 +68,13 @@ elseOf g s = toElse (suc (s .at)) 0 (drop (suc (s .at)) (brackets (g .ops)))
 abbrev pub called : State → ℕ → State
 called s m = withCalls (goTo s (suc m)) (s .calls ++ (s .at ∷ []))
 
--- "else the k-th mark from the start, counted from 0, entered in the table", or 29
+-- which mark a Call with k means, or none. The Rust's mode: "table entry k if the table has more than k, else the k-th mark from the start, counted
+-- from 0". 02, ask 4: "k always means the k-th Function mark in the patch, whatever has run"
+unfoldable pub routine : ℕ → List ℕ → List Op → ℕ → Option ℕ
+unfolding kth
+routine mode table os k = pick (eqb mode rustTable && ltb k (length table)) (some (getD table k 0)) (kth 0 k (functions os))
+
+-- it is "entered in the table", where an entry of the table stands already (`entry-stays`, proofs/Meant.antt); 29 where there is none
 abbrev pub found : State → Option ℕ → Outcome
 found s none = refused 29 0
 found s (some m) = next (withTable (called s m) (enter m (s .table)))
@@ -84,16 +90,12 @@ again g s none = next (on s)
 again g s (some w) = next (cond (isWhile (opAt (g .ops) w)) (goTo s (suc w)) (on s))
 
 unfoldable pub turn : Given → Control → State → Outcome
-unfolding toEnd toElse toOpen kth enter
+unfolding toEnd toElse toOpen routine enter
 -- "enter its place in the table (sorted, once), go past its End (20)"
 turn g function s = jump (withTable s (enter (s .at) (s .table))) (endOf g s)
--- "21, 28, 32, 29. With k in lane 0: table entry k if the table has more than k, else the k-th mark"
+-- "21, 28, 32, 29. With k in lane 0"
 turn g call s =
-    bar (minus (lane0 s)) 28
-    (bar (leb depth (length (s .calls))) 32
-    (pick (ltb (lane0 s) (length (s .table)))
-    (next (called s (getD (s .table) (lane0 s) 0)))
-    (found s (kth 0 (lane0 s) (functions (g .ops))))))
+    bar (minus (lane0 s)) 28 (bar (leb depth (length (s .calls))) 32 (found s (routine (g .mode) (s .table) (g .ops) (lane0 s))))
 turn g ret s = back s (s .calls)
 -- "If at zero: after its Else at depth 1, or after its End. While at zero: after its End. Else: after the enclosing End"
 turn g if s = pick (eqb (lane0 s) 0) (jump s (elseOf g s)) (next (on s))

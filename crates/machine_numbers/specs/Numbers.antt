@@ -7,37 +7,40 @@ use Rattle.basics.specs.Pick.{pick}
 use Rattle.machine_numbers.specs.declared.numbers.Numbers.{Numbers}
 
 abbrev pub atPosition : Numbers → ℕ → Numbers
-atPosition p v = record { depth = p .depth; saved = p .saved; pointer = p .pointer; position = v; length = p .length; lanes = p .lanes; functions = p .functions; first = p .first; waiting = p .waiting; taken = p .taken; written = p .written; halted = p .halted }
+atPosition p v = record { depth = p .depth; saved = p .saved; pointer = p .pointer; position = v; length = p .length; lanes = p .lanes; functions = p .functions; first = p .first; waiting = p .waiting; taken = p .taken; written = p .written; halted = p .halted; mode = p .mode }
 
 abbrev pub atPointer : Numbers → ℕ → Numbers
-atPointer p v = record { depth = p .depth; saved = p .saved; pointer = v; position = p .position; length = p .length; lanes = p .lanes; functions = p .functions; first = p .first; waiting = p .waiting; taken = p .taken; written = p .written; halted = p .halted }
+atPointer p v = record { depth = p .depth; saved = p .saved; pointer = v; position = p .position; length = p .length; lanes = p .lanes; functions = p .functions; first = p .first; waiting = p .waiting; taken = p .taken; written = p .written; halted = p .halted; mode = p .mode }
 
 abbrev pub ofLength : Numbers → ℕ → Numbers
-ofLength p v = record { depth = p .depth; saved = p .saved; pointer = p .pointer; position = p .position; length = v; lanes = p .lanes; functions = p .functions; first = p .first; waiting = p .waiting; taken = p .taken; written = p .written; halted = p .halted }
+ofLength p v = record { depth = p .depth; saved = p .saved; pointer = p .pointer; position = p .position; length = v; lanes = p .lanes; functions = p .functions; first = p .first; waiting = p .waiting; taken = p .taken; written = p .written; halted = p .halted; mode = p .mode }
 
 abbrev pub ofLanes : Numbers → ℕ → Numbers
-ofLanes p v = record { depth = p .depth; saved = p .saved; pointer = p .pointer; position = p .position; length = p .length; lanes = v; functions = p .functions; first = p .first; waiting = p .waiting; taken = p .taken; written = p .written; halted = p .halted }
+ofLanes p v = record { depth = p .depth; saved = p .saved; pointer = p .pointer; position = p .position; length = p .length; lanes = v; functions = p .functions; first = p .first; waiting = p .waiting; taken = p .taken; written = p .written; halted = p .halted; mode = p .mode }
 
 abbrev pub ofDepth : Numbers → ℕ → Numbers
-ofDepth p v = record { depth = v; saved = p .saved; pointer = p .pointer; position = p .position; length = p .length; lanes = p .lanes; functions = p .functions; first = p .first; waiting = p .waiting; taken = p .taken; written = p .written; halted = p .halted }
+ofDepth p v = record { depth = v; saved = p .saved; pointer = p .pointer; position = p .position; length = p .length; lanes = p .lanes; functions = p .functions; first = p .first; waiting = p .waiting; taken = p .taken; written = p .written; halted = p .halted; mode = p .mode }
 
 abbrev pub ofSaved : Numbers → ℕ → Numbers
-ofSaved p v = record { depth = p .depth; saved = v; pointer = p .pointer; position = p .position; length = p .length; lanes = p .lanes; functions = p .functions; first = p .first; waiting = p .waiting; taken = p .taken; written = p .written; halted = p .halted }
+ofSaved p v = record { depth = p .depth; saved = v; pointer = p .pointer; position = p .position; length = p .length; lanes = p .lanes; functions = p .functions; first = p .first; waiting = p .waiting; taken = p .taken; written = p .written; halted = p .halted; mode = p .mode }
 
 abbrev pub ofFunctions : Numbers → ℕ → Numbers
-ofFunctions p v = record { depth = p .depth; saved = p .saved; pointer = p .pointer; position = p .position; length = p .length; lanes = p .lanes; functions = v; first = p .first; waiting = p .waiting; taken = p .taken; written = p .written; halted = p .halted }
+ofFunctions p v = record { depth = p .depth; saved = p .saved; pointer = p .pointer; position = p .position; length = p .length; lanes = p .lanes; functions = v; first = p .first; waiting = p .waiting; taken = p .taken; written = p .written; halted = p .halted; mode = p .mode }
 
 abbrev pub ofRing : Numbers → ℕ → ℕ → Numbers
-ofRing p f w = record { depth = p .depth; saved = p .saved; pointer = p .pointer; position = p .position; length = p .length; lanes = p .lanes; functions = p .functions; first = f; waiting = w; taken = p .taken; written = p .written; halted = p .halted }
+ofRing p f w = record { depth = p .depth; saved = p .saved; pointer = p .pointer; position = p .position; length = p .length; lanes = p .lanes; functions = p .functions; first = f; waiting = w; taken = p .taken; written = p .written; halted = p .halted; mode = p .mode }
 
 abbrev pub ofTaken : Numbers → ℕ → Numbers
-ofTaken p v = record { depth = p .depth; saved = p .saved; pointer = p .pointer; position = p .position; length = p .length; lanes = p .lanes; functions = p .functions; first = p .first; waiting = p .waiting; taken = v; written = p .written; halted = p .halted }
+ofTaken p v = record { depth = p .depth; saved = p .saved; pointer = p .pointer; position = p .position; length = p .length; lanes = p .lanes; functions = p .functions; first = p .first; waiting = p .waiting; taken = v; written = p .written; halted = p .halted; mode = p .mode }
 
 abbrev pub ofWritten : Numbers → ℕ → Numbers
-ofWritten p v = record { depth = p .depth; saved = p .saved; pointer = p .pointer; position = p .position; length = p .length; lanes = p .lanes; functions = p .functions; first = p .first; waiting = p .waiting; taken = p .taken; written = v; halted = p .halted }
+ofWritten p v = record { depth = p .depth; saved = p .saved; pointer = p .pointer; position = p .position; length = p .length; lanes = p .lanes; functions = p .functions; first = p .first; waiting = p .waiting; taken = p .taken; written = v; halted = p .halted; mode = p .mode }
+
+abbrev pub ofMode : Numbers → ℕ → Numbers
+ofMode p v = record { depth = p .depth; saved = p .saved; pointer = p .pointer; position = p .position; length = p .length; lanes = p .lanes; functions = p .functions; first = p .first; waiting = p .waiting; taken = p .taken; written = p .written; halted = p .halted; mode = v }
 
 abbrev pub halt : Numbers → Numbers
-halt p = record { depth = p .depth; saved = p .saved; pointer = p .pointer; position = p .position; length = p .length; lanes = p .lanes; functions = p .functions; first = p .first; waiting = p .waiting; taken = p .taken; written = p .written; halted = true }
+halt p = record { depth = p .depth; saved = p .saved; pointer = p .pointer; position = p .position; length = p .length; lanes = p .lanes; functions = p .functions; first = p .first; waiting = p .waiting; taken = p .taken; written = p .written; halted = true; mode = p .mode }
 
 abbrev pub next : Numbers → Numbers
 next p = atPosition p (p .position + 1)
@@ -55,13 +58,13 @@ abbrev pub answered : ℕ → Numbers → OpAnswer
 answered n p = lacking n 0 p
 
 -- the numbers, one by one
-abbrev pub gathered : ℕ → ℕ → ℕ → ℕ → ℕ → ℕ → ℕ → ℕ → ℕ → ℕ → ℕ → Bool → Numbers
-gathered d s p q l n f i w t o h =
-    record { depth = d; saved = s; pointer = p; position = q; length = l; lanes = n; functions = f; first = i; waiting = w; taken = t; written = o; halted = h }
+abbrev pub gathered : ℕ → ℕ → ℕ → ℕ → ℕ → ℕ → ℕ → ℕ → ℕ → ℕ → ℕ → Bool → ℕ → Numbers
+gathered d s p q l n f i w t o h m =
+    record { depth = d; saved = s; pointer = p; position = q; length = l; lanes = n; functions = f; first = i; waiting = w; taken = t; written = o; halted = h; mode = m }
 
 -- those of a machine that is not halted
-abbrev pub running : ℕ → ℕ → ℕ → ℕ → ℕ → ℕ → ℕ → ℕ → ℕ → ℕ → ℕ → Numbers
-running d s p q l n f i w t o = gathered d s p q l n f i w t o false
+abbrev pub running : ℕ → ℕ → ℕ → ℕ → ℕ → ℕ → ℕ → ℕ → ℕ → ℕ → ℕ → ℕ → Numbers
+running d s p q l n f i w t o m = gathered d s p q l n f i w t o false m
 
 -- what an op answers that is done and goes on to the next op, one that has set the position, and a Return that halts; a refused one answers the
 -- refusal's number, and the lane in the same number

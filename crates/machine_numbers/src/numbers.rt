@@ -28,7 +28,13 @@ pub struct Numbers {
     pub taken: usize,
     pub written: usize,
     pub halted: bool,
+    pub mode: u32,
 }
+
+// The call modes: a Call asks the Rust's table, or means the mark.
+pub const RUST_TABLE: u32 = 0;
+
+pub const BY_MARK: u32 = 1;
 
 impl Numbers {
     pub const POINTER: usize = 1000000000;
@@ -56,8 +62,9 @@ impl Numbers {
         taken: usize,
         written: usize,
         halted: bool,
+        mode: u32,
     ) -> Numbers
-        ensures { λ r. ⌜ r ≡ gathered depth saved pointer position length lanes functions first waiting taken written halted ⌝ }
+        ensures { λ r. ⌜ r ≡ gathered depth saved pointer position length lanes functions first waiting taken written halted mode ⌝ }
     {
         Numbers {
             depth,
@@ -72,6 +79,7 @@ impl Numbers {
             taken,
             written,
             halted,
+            mode,
         }
     }
 }

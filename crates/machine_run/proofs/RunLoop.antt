@@ -33,6 +33,7 @@ use Rattle.machine_step.specs.CanStep.{CanStep}
 use Rattle.bridge.specs.Fits.{Fits}
 use Rattle.bridge.specs.Run.{Ran, ran, standing, rowComment, pastOf, pastIn, driveOf, runOf}
 use Rattle.bridge.proofs.Decoded.{Bytes, rows, many-rows, payloads-in-bytes, places-stored}
+use Rattle.bridge.proofs.Partners.{few-entries}
 use Rattle.bridge.proofs.Steps.{step-is}
 use Rattle.bridge.proofs.Real.{Real, step-real}
 use Rattle.bridge.proofs.Real.Real.{goes, stops}
@@ -143,7 +144,7 @@ module _ (s input : List ℕ) (c : Held) (h : Fits s input c) where
   -- the model's first test is the code's
   over-is : (c .numbers .halted || leb (length (givenTo s input c .ops)) (c .numbers .position)) ≡ overOf (c .numbers) (length (codeOf s .rows))
   unfolding overOf
-  over-is = ap (λ (n : ℕ). c .numbers .halted || leb n (c .numbers .position)) (rows s input (length (c .output)) .many)
+  over-is = ap (λ (n : ℕ). c .numbers .halted || leb n (c .numbers .position)) (rows s .many)
 
   module _ (e : overOf (c .numbers) (length (codeOf s .rows)) ≡ false) where
     steps : stepOf (codeOf s) input c ≡ laid c (step (givenTo s input c) (view c))
@@ -173,7 +174,7 @@ step-asks s input x c h e =
     let f = h .fits .formed in
     let o = op-here s input x c h e in (
       record {
-        steers = record { here = o .0; few-ops = o .1; wide = k .wide; call-room = k .call-room; depth = k .depth; functions = k .functions; rising = f .rising };
+        steers = record { here = o .0; few-ops = o .1; wide = k .wide; call-room = k .call-room; depth = k .depth; functions = k .functions; entered = rw (h .read) (few-entries s input c (h .fits)); rising = f .rising };
         ref-room = k .ref-room;
         saved = k .saved;
         near = f .near;
@@ -326,18 +327,18 @@ module _ (a : ℕ) (p : Numbers) where
 
 -- a step that answers a, which is not `done`, is the last
 pub stopped-at : {s input : List ℕ} {x : Code} {budget : ℕ} {from c : Held} {left : ℕ} → Driving s input x budget from c left → overOf (c .numbers) (length (x .rows)) ≡ false
-    → (left ≡ 0 → ⊥) → {a d v p q l n f i w t o : ℕ} {cs rs g ta ts ch out : List ℕ}
-    → after (stepped a (running d v p q l n f i w t o)) cs rs g ta ts ch out ≡ stepOf x input c → (a ≡ 0 → ⊥)
-    → {r : Answer} {k : ℕ} {m : Numbers} → r ≡ endedBy a → k ≡ madeBy a → m ≡ gathered d v p q l n f i w t o (eqb a halting)
+    → (left ≡ 0 → ⊥) → {a d v p q l n f i w t o y : ℕ} {cs rs g ta ts ch out : List ℕ}
+    → after (stepped a (running d v p q l n f i w t o y)) cs rs g ta ts ch out ≡ stepOf x input c → (a ≡ 0 → ⊥)
+    → {r : Answer} {k : ℕ} {m : Numbers} → r ≡ endedBy a → k ≡ madeBy a → m ≡ gathered d v p q l n f i w t o (eqb a halting) y
     → ran r (budget - left + k) (held m cs rs g ta ts ch out) ≡ runOf budget 0 x input from
 unfolding endedBy madeBy pick
-stopped-at {s} {input} {x} {budget} {c = c} {left = left} run e z {a} {d} {v} {p} {q} {l} {n} {f} {i} {w} {t} {o} b h er ek em =
-    let m = running d v p q l n f i w t o in
+stopped-at {s} {input} {x} {budget} {c = c} {left = left} run e z {a} {d} {v} {p} {q} {l} {n} {f} {i} {w} {t} {o} {y} b h er ek em =
+    let m = running d v p q l n f i w t o y in
     byCase (eqb a 2)
-    (λ y. rw (er, ek, em, y) (halted-at run e z _ (as-answered (halted a m (eqb-true a 2 y)) b) refl refl))
-    (λ y. let b = as-answered (refused a m (eqb-false a 2 y)) b in
+    (λ j. rw (er, ek, em, j) (halted-at run e z _ (as-answered (halted a m (eqb-true a 2 j)) b) refl refl))
+    (λ j. let b = as-answered (refused a m (eqb-false a 2 j)) b in
     let u : budget - left + 0 ≡ budget - left = omega arith in
-    rw (er, ek, em, y, u) (refused-at run e z _ b (λ r. h (let j = went-whole s input x c (run .ready) e _ b r in omega (arith, r, j)))))
+    rw (er, ek, em, j, u) (refused-at run e z _ b (λ r. h (let k = went-whole s input x c (run .ready) e _ b r in omega (arith, r, k)))))
 
 pub made-few : (a : ℕ) → madeBy a ≤ 1
 unfolding madeBy pick
@@ -348,14 +349,14 @@ made-few a = byCase (eqb a 2) (λ e. rw e (omega arith)) (λ e. rw e (omega arit
 abbrev pub opened : Held → Held
 opened c =
     let p = c .numbers in
-    held (running (p .depth) (p .saved) (p .pointer) (p .position) (p .length) (p .lanes) (p .functions) (p .first) (p .waiting) (p .taken) (p .written))
+    held (running (p .depth) (p .saved) (p .pointer) (p .position) (p .length) (p .lanes) (p .functions) (p .first) (p .waiting) (p .taken) (p .written) (p .mode))
     (c .calls) (c .refs) (c .register) (c .tape) (c .table) (c .channel) (c .output)
 
 same-opened : (c : Held) → c .numbers .halted ≡ false → c ≡ opened c
 same-opened c e =
     let p = c .numbers in
     let so = gathered (p .depth) (p .saved) (p .pointer) (p .position) (p .length) (p .lanes) (p .functions) (p .first) (p .waiting) (p .taken) (p .written) in
-    ap (λ (h : Bool). held (so h) (c .calls) (c .refs) (c .register) (c .tape) (c .table) (c .channel) (c .output)) e
+    ap (λ (h : Bool). held (so h (p .mode)) (c .calls) (c .refs) (c .register) (c .tape) (c .table) (c .channel) (c .output)) e
 
 pub open-at-first : {s input : List ℕ} {x : Code} {c : Held} (budget : ℕ) → ReadyToRun s input x c → c .numbers .halted ≡ false
     → Running s input x budget (opened c) (opened c) budget

@@ -79,6 +79,7 @@ pub fn go(
     let mut waiting = numbers.waiting;
     let mut taken = numbers.taken;
     let mut written = numbers.written;
+    let mode = numbers.mode;
     let mut left = budget;
     loop {
         if rows.len() <= position {
@@ -98,6 +99,7 @@ pub fn go(
                     taken,
                     written,
                     false,
+                    mode,
                 ),
             };
         }
@@ -121,6 +123,7 @@ pub fn go(
                         taken,
                         written,
                         false,
+                        mode,
                     ),
                 };
             }
@@ -136,6 +139,7 @@ pub fn go(
                 &mut waiting,
                 &mut taken,
                 &mut written,
+                mode,
                 rows,
                 counts,
                 needs,
@@ -171,6 +175,7 @@ pub fn go(
                         taken,
                         written,
                         a == HALTED,
+                        mode,
                     ),
                 };
             }

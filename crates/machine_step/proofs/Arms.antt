@@ -16,7 +16,7 @@ use Rattle.kind_table.specs.Kinds.{familyOf}
 use Rattle.ops.specs.Decode.{modeIn}
 use Rattle.ops.specs.declared.op.Mode.{Mode}
 use Rattle.machine_numbers.specs.declared.numbers.Numbers.{Numbers}
-use Rattle.machine_numbers.specs.Numbers.{atPosition, atPointer, ofLength, ofLanes, ofDepth, ofSaved, ofFunctions, ofRing, ofTaken, ofWritten, next, answered, left, onward, OpAnswer, OneList, oneList, steered, swapped, taped}
+use Rattle.machine_numbers.specs.Numbers.{atPosition, atPointer, ofLength, ofLanes, ofDepth, ofSaved, ofFunctions, ofMode, ofRing, ofTaken, ofWritten, next, answered, left, onward, OpAnswer, OneList, oneList, steered, swapped, taped}
 use Rattle.control_ops.specs.CanSteer.{Steers, CanCall}
 use Rattle.control_ops.specs.Control.{functionOf, callOf, retOf, whileOf, ifOf, elsesOf, endsOf, inTable, controlOf}
 use Rattle.tape_ops.specs.Tape.{setOf, storeOf, loadOf, moveOf, whereOf, derefOf, referOf, allocOf, inRegister, inTape, inRefs, tapeOf}
@@ -48,7 +48,7 @@ module _ {k n a : ℕ} {ks ps ts fs bs : List ℕ} {c : Held} (h : CanOp k n a k
   pub can-call : CanCall (c .numbers .position) (c .numbers .depth) (c .numbers .functions) ks fs (c .calls) (c .register) (c .table)
   can-call =
       let s = h .step .steers in
-      record { here = s .here; few-ops = s .few-ops; wide = s .wide; call-room = s .call-room; depth = s .depth; functions = s .functions; rising = s .rising; marks = h .marks }
+      record { here = s .here; few-ops = s .few-ops; wide = s .wide; call-room = s .call-room; depth = s .depth; functions = s .functions; entered = rw (h .marks) (s .entered); rising = s .rising; marks = h .marks }
 
   -- the op that answers r and sets the numbers q, and what it leaves of the lists
   pub sets : k % 64 ≡ row.set → (input : List ℕ) (r m′ : ℕ) (g′ : List ℕ)
@@ -112,7 +112,7 @@ module _ {k n a : ℕ} {ks ps ts fs bs : List ℕ} {c : Held} (h : CanOp k n a k
   functions e input r q′ f′ ts′ w = rw (key e) (ap (λ (x : OneList). steering c (inTable (c .calls) x)) (w (c .numbers)))
 
   pub calls : k % 64 ≡ row.call → (input : List ℕ) (r q′ d′ f′ : ℕ) (cs′ ts′ : List ℕ)
-      → ((z : Numbers) → steered (left r (c .numbers .position) (ofFunctions (ofDepth (atPosition z q′) d′) f′)) cs′ ts′ ≡ callOf ks (ofFunctions (ofDepth (atPosition z (c .numbers .position)) (c .numbers .depth)) (c .numbers .functions)) (c .calls) (c .register) (c .table))
+      → ((z : Numbers) → steered (left r (c .numbers .position) (ofFunctions (ofDepth (atPosition (ofMode z (c .numbers .mode)) q′) d′) f′)) cs′ ts′ ≡ callOf ks (ofFunctions (ofDepth (atPosition (ofMode z (c .numbers .mode)) (c .numbers .position)) (c .numbers .depth)) (c .numbers .functions)) (c .calls) (c .register) (c .table))
       → after (left r (c .numbers .position) (ofFunctions (ofDepth (atPosition (c .numbers) q′) d′) f′)) cs′ (c .refs) (c .register) (c .tape) ts′ (c .channel) (c .output) ≡ opOf k n a ks bs input c
   unfolding opOf controlOf familyOf pick
   calls e input r q′ d′ f′ cs′ ts′ w = rw (key e) (ap (steering c) (w (c .numbers)))

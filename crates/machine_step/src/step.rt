@@ -38,6 +38,7 @@ fn op(
     waiting: &mut usize,
     taken: &mut usize,
     written: &mut usize,
+    mode: u32,
     rows: &[u8],
     partners: &[u16],
     turns: &[u16],
@@ -52,8 +53,8 @@ fn op(
     input: &[u64],
     output: &mut [u64],
 ) -> u32
-    requires { ⌜ CanOp k n a (now rows) (now partners) (now turns) (now marks) (now bytes) (held (running (now depth) (now saved) (now pointer) (now position) (now counted) (now lanes) (now functions) (now first) (now waiting) (now taken) (now written)) (now calls) (now refs) (now register) (now tape) (now table) (now channel) (now output)) ⌝ }
-    ensures { λ r. ⌜ after (left r (now (position .entry)) (running (now (depth .exit)) (now (saved .exit)) (now (pointer .exit)) (now (position .exit)) (now (counted .exit)) (now (lanes .exit)) (now (functions .exit)) (now (first .exit)) (now (waiting .exit)) (now (taken .exit)) (now (written .exit)))) (now (calls .exit)) (now (refs .exit)) (now (register .exit)) (now (tape .exit)) (now (table .exit)) (now (channel .exit)) (now (output .exit)) ≡ opOf k n a (now (rows .entry)) (now (bytes .entry)) (now (input .entry)) (held (running (now (depth .entry)) (now (saved .entry)) (now (pointer .entry)) (now (position .entry)) (now (counted .entry)) (now (lanes .entry)) (now (functions .entry)) (now (first .entry)) (now (waiting .entry)) (now (taken .entry)) (now (written .entry))) (now (calls .entry)) (now (refs .entry)) (now (register .entry)) (now (tape .entry)) (now (table .entry)) (now (channel .entry)) (now (output .entry))) ⌝ }
+    requires { ⌜ CanOp k n a (now rows) (now partners) (now turns) (now marks) (now bytes) (held (running (now depth) (now saved) (now pointer) (now position) (now counted) (now lanes) (now functions) (now first) (now waiting) (now taken) (now written) mode) (now calls) (now refs) (now register) (now tape) (now table) (now channel) (now output)) ⌝ }
+    ensures { λ r. ⌜ after (left r (now (position .entry)) (running (now (depth .exit)) (now (saved .exit)) (now (pointer .exit)) (now (position .exit)) (now (counted .exit)) (now (lanes .exit)) (now (functions .exit)) (now (first .exit)) (now (waiting .exit)) (now (taken .exit)) (now (written .exit)) mode)) (now (calls .exit)) (now (refs .exit)) (now (register .exit)) (now (tape .exit)) (now (table .exit)) (now (channel .exit)) (now (output .exit)) ≡ opOf k n a (now (rows .entry)) (now (bytes .entry)) (now (input .entry)) (held (running (now (depth .entry)) (now (saved .entry)) (now (pointer .entry)) (now (position .entry)) (now (counted .entry)) (now (lanes .entry)) (now (functions .entry)) (now (first .entry)) (now (waiting .entry)) (now (taken .entry)) (now (written .entry)) mode) (now (calls .entry)) (now (refs .entry)) (now (register .entry)) (now (tape .entry)) (now (table .entry)) (now (channel .entry)) (now (output .entry))) ⌝ }
 {
     let at = *position;
     match k % 64 {
@@ -62,6 +63,7 @@ fn op(
         row::FUNCTION => control::function(at, position, functions, rows, partners, table),
         row::CALL => control::call(
             at,
+            mode,
             position,
             depth,
             functions,
@@ -127,6 +129,7 @@ pub fn step(
     waiting: &mut usize,
     taken: &mut usize,
     written: &mut usize,
+    mode: u32,
     rows: &[u8],
     counts: &[u16],
     needs: &[u16],
@@ -144,8 +147,8 @@ pub fn step(
     input: &[u64],
     output: &mut [u64],
 ) -> u32
-    requires { ⌜ CanStep (now rows) (held (running (now depth) (now saved) (now pointer) (now position) (now counted) (now lanes) (now functions) (now first) (now waiting) (now taken) (now written)) (now calls) (now refs) (now register) (now tape) (now table) (now channel) (now output)) × PayloadsInBytes (code (now rows) (now counts) (now needs) (now payloads) (now partners) (now turns) (now marks) (now bytes)) × Stored (now rows) (now partners) (now turns) (now marks) ⌝ }
-    ensures { λ r. ⌜ after (stepped r (running (now (depth .exit)) (now (saved .exit)) (now (pointer .exit)) (now (position .exit)) (now (counted .exit)) (now (lanes .exit)) (now (functions .exit)) (now (first .exit)) (now (waiting .exit)) (now (taken .exit)) (now (written .exit)))) (now (calls .exit)) (now (refs .exit)) (now (register .exit)) (now (tape .exit)) (now (table .exit)) (now (channel .exit)) (now (output .exit)) ≡ stepOf (code (now (rows .entry)) (now (counts .entry)) (now (needs .entry)) (now (payloads .entry)) (now (partners .entry)) (now (turns .entry)) (now (marks .entry)) (now (bytes .entry))) (now (input .entry)) (held (running (now (depth .entry)) (now (saved .entry)) (now (pointer .entry)) (now (position .entry)) (now (counted .entry)) (now (lanes .entry)) (now (functions .entry)) (now (first .entry)) (now (waiting .entry)) (now (taken .entry)) (now (written .entry))) (now (calls .entry)) (now (refs .entry)) (now (register .entry)) (now (tape .entry)) (now (table .entry)) (now (channel .entry)) (now (output .entry))) ⌝ }
+    requires { ⌜ CanStep (now rows) (held (running (now depth) (now saved) (now pointer) (now position) (now counted) (now lanes) (now functions) (now first) (now waiting) (now taken) (now written) mode) (now calls) (now refs) (now register) (now tape) (now table) (now channel) (now output)) × PayloadsInBytes (code (now rows) (now counts) (now needs) (now payloads) (now partners) (now turns) (now marks) (now bytes)) × Stored (now rows) (now partners) (now turns) (now marks) ⌝ }
+    ensures { λ r. ⌜ after (stepped r (running (now (depth .exit)) (now (saved .exit)) (now (pointer .exit)) (now (position .exit)) (now (counted .exit)) (now (lanes .exit)) (now (functions .exit)) (now (first .exit)) (now (waiting .exit)) (now (taken .exit)) (now (written .exit)) mode)) (now (calls .exit)) (now (refs .exit)) (now (register .exit)) (now (tape .exit)) (now (table .exit)) (now (channel .exit)) (now (output .exit)) ≡ stepOf (code (now (rows .entry)) (now (counts .entry)) (now (needs .entry)) (now (payloads .entry)) (now (partners .entry)) (now (turns .entry)) (now (marks .entry)) (now (bytes .entry))) (now (input .entry)) (held (running (now (depth .entry)) (now (saved .entry)) (now (pointer .entry)) (now (position .entry)) (now (counted .entry)) (now (lanes .entry)) (now (functions .entry)) (now (first .entry)) (now (waiting .entry)) (now (taken .entry)) (now (written .entry)) mode) (now (calls .entry)) (now (refs .entry)) (now (register .entry)) (now (tape .entry)) (now (table .entry)) (now (channel .entry)) (now (output .entry))) ⌝ }
 {
     let at = *position;
     let d = wide_short(needs[at]);
@@ -171,6 +174,7 @@ pub fn step(
         waiting,
         taken,
         written,
+        mode,
         rows,
         partners,
         turns,

@@ -12,7 +12,8 @@ use Rattle.basics.proofs.Tests.{byCase}
 use Rattle.byte_fields.specs.Storage.{fill}
 use Rattle.ops.specs.Patch.{Item, rowIn, markOf, patchOf}
 use Rattle.file_laws.proofs.Items.{marksIn, few-marks}
-use Rattle.partners.specs.Columns.{rowFunction, partnerAt, turnAt, partnersOf, turnsOf, placesFrom, functionsOf, fillEnd}
+use Rattle.machine_model.specs.Scan.{placesFrom}
+use Rattle.partners.specs.Columns.{rowFunction, partnerAt, turnAt, partnersOf, turnsOf, functionsOf, fillEnd}
 use Rattle.partners.proofs.Frames.{length-column}
 
 -- a file has no more Function marks than the limit

@@ -13,36 +13,13 @@ use borrow.Author.Tests.{leb-true, leb-false, eqb-true}
 use Rattle.basics.specs.Limits.{mostMarks}
 use Rattle.basics.specs.Pick.{pick}
 use Rattle.basics.proofs.Tests.{byCase}
-use Rattle.machine_model.specs.Scan.{kth}
-use Rattle.partners.specs.Columns.{rowFunction, nowhere, place, markOf, placesFrom, functionsOf, fillEnd, nthOf}
+use Rattle.machine_model.specs.Scan.{kth, placesFrom}
+use Rattle.machine_model.specs.Limited.{count}
+use Rattle.machine_model.proofs.Scans.{nth-inside, nth-outside, kth-nth}
+use Rattle.partners.specs.Columns.{rowFunction, place, markOf, functionsOf, fillEnd, nthOf}
 use Rattle.partners.specs.Pass.{Entered, entered, enteredOf}
 
 -- ---- the k-th of them
-
--- the n-th of a list
-abbrev nth : ℕ → List ℕ → Option ℕ
-nth n [] = none
-nth zero (x ∷ xs) = some x
-nth (suc n) (x ∷ xs) = nth n xs
-
-kth-nth : (p k : ℕ) (bs : List Bool) → kth p k bs ≡ nth k (placesFrom p bs)
-unfolding kth
-kth-nth p zero [] = refl
-kth-nth p (suc k) [] = refl
-kth-nth p zero (true ∷ bs) = refl
-kth-nth p (suc k) (true ∷ bs) = kth-nth (suc p) k bs
-kth-nth p zero (false ∷ bs) = kth-nth (suc p) zero bs
-kth-nth p (suc k) (false ∷ bs) = kth-nth (suc p) (suc k) bs
-
-nth-inside : (k : ℕ) (xs : List ℕ) → k < length xs → place (nth k xs) ≡ getD xs k 0
-nth-inside k [] h = absurd (omega arith)
-nth-inside zero (x ∷ xs) h = refl
-nth-inside (suc k) (x ∷ xs) h = nth-inside k xs (omega arith)
-
-nth-outside : (k : ℕ) (xs : List ℕ) → length xs ≤ k → place (nth k xs) ≡ nowhere
-nth-outside k [] h = refl
-nth-outside zero (x ∷ xs) h = absurd (omega arith)
-nth-outside (suc k) (x ∷ xs) h = nth-outside k xs (omega arith)
 
 -- the k-th of the marks' places is what the search for the k-th mark finds
 pub nth-mark : (ks : List ℕ) (k : ℕ) → nthOf k (functionsOf ks) ≡ markOf ks k
@@ -50,11 +27,31 @@ unfolding nthOf pick functionsOf markOf
 nth-mark ks k =
     let found = ap place (kth-nth 0 k (map rowFunction ks)) in
     byCase (leb (length (functionsOf ks)) k)
-    (λ e. rw e (sym (found ∙ nth-outside k (functionsOf ks) (leb-true (length (functionsOf ks)) k e))))
-    (λ e. rw e (sym (found ∙ nth-inside k (functionsOf ks) (leb-false (length (functionsOf ks)) k e))))
+    (λ e. rw e (sym (found ∙ ap place (nth-outside k (functionsOf ks) (leb-true (length (functionsOf ks)) k e)))))
+    (λ e. rw e (sym (found ∙ ap place (nth-inside k (functionsOf ks) (leb-false (length (functionsOf ks)) k e)))))
 
 pub nth-by : (ks fs : List ℕ) (k r : ℕ) → fs ≡ functionsOf ks → r ≡ nthOf k fs → r ≡ markOf ks k
 nth-by ks fs k r e q = q ∙ ap (nthOf k) e ∙ nth-mark ks k
+
+-- they are as many as the tests that are true
+pub count-places : (p : ℕ) (bs : List Bool) → length (placesFrom p bs) ≡ count bs
+count-places p [] = refl
+count-places p (true ∷ bs) = ap suc (count-places (suc p) bs)
+count-places p (false ∷ bs) = count-places (suc p) bs
+
+-- of those that there are, a place of the patch
+places-inside : (p : ℕ) (bs : List Bool) (k : ℕ) → k < length (placesFrom p bs) → getD (placesFrom p bs) k 0 < p + length bs
+places-inside p [] k h = absurd (omega arith)
+places-inside p (true ∷ bs) zero h = omega arith
+places-inside p (true ∷ bs) (suc k) h = omega (arith, places-inside (suc p) bs k (omega arith))
+places-inside p (false ∷ bs) k h = omega (arith, places-inside (suc p) bs k h)
+
+pub mark-inside : (ks fs : List ℕ) (k : ℕ) → fs ≡ functionsOf ks → k < length fs → (markOf ks k ≡ getD fs k 0) × (markOf ks k < length ks)
+unfolding functionsOf markOf
+mark-inside ks fs k e h =
+    let l : k < length (functionsOf ks) = rw e at h in
+    let is : markOf ks k ≡ getD (functionsOf ks) k 0 = ap place (kth-nth 0 k (map rowFunction ks) ∙ nth-inside k (functionsOf ks) l) in
+    (rw e is, omega (arith, is, places-inside 0 (map rowFunction ks) k l, length-map ks rowFunction))
 
 -- ---- the pass
 

@@ -12,7 +12,7 @@ use Rattle.basics.specs.Pick.{pick}
 use Rattle.kind_table.specs.Rows as row
 use Rattle.ops.specs.Syntax.{Bracket}
 use Rattle.ops.specs.Syntax.Bracket.{up, down, mid, flat}
-use Rattle.machine_model.specs.Scan.{toEnd, toElse, toOpen, kth}
+use Rattle.machine_model.specs.Scan.{toEnd, toElse, toOpen, kth, placesFrom}
 
 -- what a row of the table of kinds is to a search: Function, While and If open, End closes, Else stands between
 unfoldable pub rowBracket : ℕ → Bracket
@@ -83,12 +83,6 @@ partnersOf ks = column (partnerAt ks) 0 (length ks)
 
 unfoldable pub turnsOf : List ℕ → List ℕ
 turnsOf ks = column (turnAt ks) 0 (length ks)
-
--- the places of the marks; p is the place of the list's first
-abbrev pub placesFrom : ℕ → List Bool → List ℕ
-placesFrom p [] = []
-placesFrom p (true ∷ bs) = p ∷ placesFrom (suc p) bs
-placesFrom p (false ∷ bs) = placesFrom (suc p) bs
 
 -- "the places of the Function marks in file order"
 unfoldable pub functionsOf : List ℕ → List ℕ

@@ -38,10 +38,10 @@ pub const STEP: u8 = 5;
 // The bytes of an answer before its machine: number, steps, place and lane.
 const ANSWER: usize = 16;
 
-// What is handed a state has its machine before its answer.
+// What is handed a state has its machine before its answer, a fresh run its call mode.
 fn at_answer(case: &[u8], sort: u8, at: usize) -> usize {
     if sort == FRESH {
-        return at;
+        return after(case, at, 4);
     }
     after_machine(case, at)
 }
@@ -104,7 +104,18 @@ fn start(
 ) -> Ran {
     let budget = budget_of(case);
     if sort == FRESH {
-        return Machine::run_fresh(file, register, tape, table, channel, input, output, budget);
+        let mode = word(case, at) as u32;
+        return Machine::run_fresh(
+            file,
+            register,
+            tape,
+            table,
+            channel,
+            input,
+            output,
+            budget,
+            mode,
+        );
     }
     let m = machine_at(case, at);
     if sort == STEP {

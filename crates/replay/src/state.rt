@@ -21,7 +21,7 @@ fn given(n: usize) -> usize
 
 // Where the saved calls and the saved pointers of the machine at a place begin, and the place after them.
 fn at_calls(case: &[u8], at: usize) -> usize {
-    after(case, at, 48)
+    after(case, at, 52)
 }
 
 fn at_refs(case: &[u8], at: usize) -> usize {
@@ -46,6 +46,7 @@ fn numbers_at(case: &[u8], at: usize) -> Numbers {
         taken: word_on(case, at, 32),
         written: word_on(case, at, 36),
         halted: word_on(case, at, 12) != 0,
+        mode: word_on(case, at, 48) as u32,
     }
 }
 
@@ -173,6 +174,7 @@ fn same_counts(tell: Tell, e: Numbers, m: Numbers) -> bool {
         && tell.same(b"outputs written", e.written, m.written)
         && tell.same(b"calls saved", e.depth, m.depth)
         && tell.same(b"pointers saved", e.saved, m.saved)
+        && tell.same(b"call mode", e.mode as usize, m.mode as usize)
 }
 
 fn same_numbers(tell: Tell, e: Numbers, m: Numbers) -> bool {

@@ -1,5 +1,5 @@
 // The runner: a patch on standard input, checked and run from fresh with no input values, 4,096 cells, room for 4,096 outputs and a budget of
-// 100,000 steps. It prints the check's number and place, the run's number, steps and place, and the outputs; of a bad file `load`, its number
+// 100,000 steps; with the argument --by-mark in the other call mode. It prints the check's number and place, the run's number, steps and place, and the outputs; of a bad file `load`, its number
 // and place alone.
 use answers::check::Verdict;
 use answers::run::number_of;
@@ -24,7 +24,7 @@ fn show_answer(word: &[u8], n: usize, place: usize) {
     end_line();
 }
 
-fn run(file: &[u8]) {
+fn run(file: &[u8], mode: u32) {
     let mut register = [0u64; Machine::LANES];
     let mut tape = [0u64; CELLS];
     let mut table = [0u16; Machine::MARKS];
@@ -40,6 +40,7 @@ fn run(file: &[u8]) {
         &input,
         &mut output,
         BUDGET,
+        mode,
     );
     let answer = r.answer;
     let m = r.machine.numbers;
@@ -53,7 +54,7 @@ fn run(file: &[u8]) {
     end_line();
 }
 
-fn check_and_run(file: &[u8]) {
+fn check_and_run(file: &[u8], mode: u32) {
     let v = patch_check::check::check(file);
     if let Verdict::BadFile { number, place } = v {
         show_answer(b"load", number, place);
@@ -64,12 +65,58 @@ fn check_and_run(file: &[u8]) {
         answers::check::number_of(v),
         answers::check::place_of(v),
     );
-    run(file);
+    run(file, mode);
+}
+
+// The one argument that the runner takes.
+const WORD: [u8; 9] = *b"--by-mark";
+
+// Whether the first argument is that word.
+fn is_by_mark() -> bool {
+    let mut word = [0u8; 9];
+    if os::arg(1, &mut word) != 9 {
+        return false;
+    }
+    let mut i: usize = 0;
+    while i < 9 {
+        if word[i] != WORD[i] {
+            return false;
+        }
+        i += 1;
+    }
+    true
+}
+
+// What the arguments ask for: a call mode, or nothing that there is.
+enum Asked {
+    Mode(u32),
+    Unknown,
+}
+
+// With no argument the Rust's mode, with the word the other.
+fn mode_asked() -> Asked {
+    let n = os::arg_count();
+    if n <= 1 {
+        return Asked::Mode(Machine::RUST_TABLE);
+    }
+    if n == 2 && is_by_mark() {
+        return Asked::Mode(Machine::BY_MARK);
+    }
+    Asked::Unknown
 }
 
 // One byte more than the longest file is read, so that a longer one is answered as such and not read to its end.
-fn main() {
+fn read_and_run(mode: u32) {
     let mut file = [0u8; Machine::FILE + 1];
     let n = io::read_full(0, &mut file);
-    check_and_run(&file[..n]);
+    check_and_run(&file[..n], mode);
+}
+
+fn main() {
+    match mode_asked() {
+        Asked::Mode(mode) => read_and_run(mode),
+        Asked::Unknown => {
+            io::write_all(2, b"runner: it takes no argument but --by-mark\n");
+        }
+    }
 }

@@ -1,6 +1,6 @@
 -- The function table: a search by halves finds where a place stands or belongs, and there it is entered; the entries above it move up by one and the
 -- others stay. Assumes nothing.
-use mathlib.Core.Path.{_≡_, _∙_, refl, ap, sym}
+use mathlib.Core.Path.{_≡_, _∙_, refl, ap, sym, subst}
 use mathlib.Core.Bool.{true, false}
 use mathlib.Core.Logic.{_⊎_, inl, inr}
 use mathlib.Core.List.{List, [], _∷_, _++_, append-assoc}
@@ -17,7 +17,9 @@ use Rattle.basics.proofs.Tests.{byCase}
 use Rattle.byte_fields.specs.Storage.{fill}
 use Rattle.machine_model.specs.Step.{enter}
 use Rattle.machine_model.specs.Formed.{Each, Rising}
+use Rattle.machine_model.specs.Modes.{In}
 use Rattle.machine_model.proofs.Each.{each-at, each-to}
+use Rattle.machine_model.proofs.Meant.{in-at, entry-stays}
 use Rattle.searches.specs.Found.{below, above, soughtIn, enteredIn, countedIn}
 use Rattle.searches.specs.declared.table.Sought.the-variants.{There, Missing}
 
@@ -163,14 +165,21 @@ module _ (v n : ℕ) (ts : List ℕ) (pre : (n ≤ length ts) × Rising (take n 
           absurd (none b (sym (getD-take n ts k 0 b) ∙ rw e g))
       by (belongs s g f) e = omega (arith, whole)
 
-  -- v is there, and the table stays
-  pub entered-there : There ≡ soughtIn v (take n ts) → (n ≡ countedIn v n ts) × (ts ≡ enteredIn v n ts)
+  -- v is there, and the table stays: the search says so, or its entry k is v
+  entered-same : enter v (take n ts) ≡ take n ts → (n ≡ countedIn v n ts) × (ts ≡ enteredIn v n ts)
   unfolding countedIn enteredIn pick fill
-  entered-there e =
-      let k : enter v (take n ts) ≡ take n ts = stays here (e ∙ sought-is) in (
-        rw (k, whole, le-ltb (length ts) n (pre .0)) refl,
-        rw (k, whole, le-ltb (length ts) n (pre .0)) (sym (take-append-drop n ts)),
-      )
+  entered-same k = (
+    rw (k, whole, le-ltb (length ts) n (pre .0)) refl,
+    rw (k, whole, le-ltb (length ts) n (pre .0)) (sym (take-append-drop n ts)),
+  )
+
+  pub entered-at : (k : ℕ) → k < n → getD ts k 0 ≡ v → (n ≡ countedIn v n ts) × (ts ≡ enteredIn v n ts)
+  entered-at k b is =
+      entered-same (entry-stays v (take n ts) (pre .1) (subst (λ (x : ℕ). In x (take n ts)) (getD-take n ts k 0 b ∙ is) (in-at (take n ts) k (omega (arith, whole)))))
+
+  pub entered-there : There ≡ soughtIn v (take n ts) → (n ≡ countedIn v n ts) × (ts ≡ enteredIn v n ts)
+  unfolding pick
+  entered-there e = entered-same (stays here (e ∙ sought-is))
     where
       stays : {b a : ℕ} → Known v (take n ts) b a → There ≡ pick (ltb (b + a) n) There (Missing b) → enter v (take n ts) ≡ take n ts
       stays (stands s g f) e = f

@@ -21,11 +21,11 @@ use Rattle.machine_model.proofs.Each.{each-to}
 use Rattle.partners.specs.Columns.{rowFunction}
 use Rattle.machine_numbers.specs.declared.numbers.Numbers.{Numbers}
 use Rattle.machine_step.specs.Held.{Held}
-use Rattle.bridge.specs.Decoded.{codeOf, givenOf}
+use Rattle.bridge.specs.Decoded.{codeOf, patchIn, givenTo}
 use Rattle.bridge.specs.Fits.{Fits}
 use Rattle.bridge.proofs.Control.{Rows}
 use Rattle.bridge.proofs.Decoded.{rows}
-use Rattle.states.specs.Formed.{hasRoom, isWhole, inLimits, inPlace, allOf, callsBelow, refsWithin, namesFrom, tableNames, isFormed}
+use Rattle.states.specs.Formed.{hasRoom, canStart, isWhole, isMode, inLimits, inPlace, allOf, callsBelow, refsWithin, namesFrom, tableNames, isFormed}
 
 parts : (a b : Bool) → (a && b) ≡ true → (a ≡ true) × (b ≡ true)
 parts a b e = (and-left a b e, and-right a b e)
@@ -50,6 +50,11 @@ has-room : (g ts ch : List ℕ) → Room g ts ch → hasRoom g ts ch ≡ true
 unfolding hasRoom
 has-room g ts ch r = rw (le-leb _ _ (r .wide), le-leb _ _ (r .tabled), le-leb _ _ (r .ringed)) refl
 
+-- what a fresh run asks
+pub starts : (mode : ℕ) (g ts ch : List ℕ) → canStart mode g ts ch ≡ true → (mode ≤ 1) × Room g ts ch
+unfolding canStart isMode
+starts mode g ts ch e = let t = parts _ _ e in (leb-true mode 1 (t .0), room g ts ch (t .1))
+
 -- ---- the limits
 
 whole : (l : ℕ) → isWhole l ≡ true → Whole l
@@ -70,12 +75,13 @@ pub record Limits (p : Numbers) : Type 0 where
   pub few-refs : p .saved ≤ 256
   pub few-sent : p .waiting ≤ 256
   pub first : p .first < 256
+  pub known : p .mode ≤ 1
   pub whole : Whole (p .length)
 
 pub limits : (p : Numbers) → inLimits p ≡ true → Limits p
-unfolding inLimits
+unfolding inLimits isMode
 limits p e =
-    let e8 = parts _ _ e in let e7 = parts _ _ (e8 .0) in let e6 = parts _ _ (e7 .0) in let e5 = parts _ _ (e6 .0) in
+    let e9 = parts _ _ e in let e8 = parts _ _ (e9 .0) in let e7 = parts _ _ (e8 .0) in let e6 = parts _ _ (e7 .0) in let e5 = parts _ _ (e6 .0) in
     let e4 = parts _ _ (e5 .0) in let e3 = parts _ _ (e4 .0) in let e2 = parts _ _ (e3 .0) in let e1 = parts _ _ (e2 .0) in
     record {
       near = leb-true _ _ (e1 .0);
@@ -86,11 +92,12 @@ limits p e =
       few-refs = leb-true _ _ (e5 .1);
       few-sent = leb-true _ _ (e6 .1);
       first = ltb-true _ _ (e7 .1);
-      whole = whole _ (e8 .1);
+      known = leb-true _ _ (e8 .1);
+      whole = whole _ (e9 .1);
     }
 
 in-limits : (p : Numbers) → Limits p → inLimits p ≡ true
-unfolding inLimits
+unfolding inLimits isMode
 in-limits p l =
     rw (
       le-leb _ _ (l .near),
@@ -101,6 +108,7 @@ in-limits p l =
       le-leb _ _ (l .few-refs),
       le-leb _ _ (l .few-sent),
       lt-ltb _ _ (l .first),
+      le-leb _ _ (l .known),
       is-whole _ (l .whole),
     ) refl
 
@@ -180,6 +188,11 @@ pub first-tests : (ks : List ℕ) (n : ℕ) (c : Held) → isFormed ks n c ≡ t
 unfolding isFormed
 first-tests ks n c e = parts (hasRoom (c .register) (c .table) (c .channel)) _ (and-left _ _ (and-left _ _ (and-left _ _ (and-left _ _ e))))
 
+-- and so what a fresh run asks
+pub formed-starts : (ks : List ℕ) (n : ℕ) (c : Held) → isFormed ks n c ≡ true → canStart (c .numbers .mode) (c .register) (c .table) (c .channel) ≡ true
+unfolding canStart isMode
+formed-starts ks n c e = let t = first-tests ks n c e in both (le-leb _ _ (limits (c .numbers) (t .1) .known)) (t .0)
+
 every : (l : List ℕ) → Each (λ y. 0 ≤ y) l
 every [] = tt
 every (x ∷ xs) = (omega arith, every xs)
@@ -187,13 +200,13 @@ every (x ∷ xs) = (omega arith, every xs)
 module _ (s input : List ℕ) (c : Held) (kc : length (c .calls) ≡ 256) (kr : length (c .refs) ≡ 256) where
   -- a state that the test passes fits the patch
   pub formed-fits : isFormed (codeOf s .rows) (length input) c ≡ true → Fits s input c
-  unfolding isFormed callsBelow refsWithin tableNames givenOf
+  unfolding isFormed callsBelow refsWithin tableNames
   formed-fits e =
       let e5 = parts _ _ e in let e4 = parts _ _ (e5 .0) in let e3 = parts _ _ (e4 .0) in let e2 = parts _ _ (e3 .0) in let e1 = parts _ _ (e2 .0) in
       let r = room (c .register) (c .table) (c .channel) (e1 .0) in
       let l = limits (c .numbers) (e1 .1) in
       let w = within (c .numbers) (length (codeOf s .rows)) (length input) (length (c .output)) (e2 .1) in
-      let rs = rows s input (length (c .output)) in
+      let rs = rows s in
       let n = rs .many in
       record {
         counted = record {
@@ -220,21 +233,22 @@ module _ (s input : List ℕ) (c : Held) (kc : length (c .calls) ≡ 256) (kr : 
           few-refs = omega (arith, l .few-refs, length-take-le (c .numbers .saved) (c .refs) (omega (arith, l .few-refs, kr)));
           few-sent = omega (arith, l .few-sent, length-ring (c .channel) (c .numbers .first) (c .numbers .waiting));
           within = omega (arith, w .within, n);
-          saved = each-of (λ x. ltb x (length (codeOf s .rows))) (λ x. x < length (givenOf s input (length (c .output)) .ops)) (λ x h. omega (arith, ltb-true x (length (codeOf s .rows)) h, n)) (take (c .numbers .depth) (c .calls)) (e3 .1);
+          saved = each-of (λ x. ltb x (length (codeOf s .rows))) (λ x. x < length (patchIn s)) (λ x h. omega (arith, ltb-true x (length (codeOf s .rows)) h, n)) (take (c .numbers .depth) (c .calls)) (e3 .1);
           pointed = each-of (λ x. leb x 1_000_000_000) (λ x. x ≤ 1_000_000_000) (λ x h. leb-true x 1_000_000_000 h) (take (c .numbers .saved) (c .refs)) (e4 .1);
-          rising = rising (givenOf s input (length (c .output))) (codeOf s .rows) rs 0 (take (c .numbers .functions) (c .table)) (e5 .1);
-          marked = marked (givenOf s input (length (c .output))) (codeOf s .rows) rs 0 (take (c .numbers .functions) (c .table)) (e5 .1);
+          rising = rising (givenTo s input c) (codeOf s .rows) rs 0 (take (c .numbers .functions) (c .table)) (e5 .1);
+          marked = marked (givenTo s input c) (codeOf s .rows) rs 0 (take (c .numbers .functions) (c .table)) (e5 .1);
           read = w .read;
           fits = omega (arith, w .written, length-take-le (c .numbers .written) (c .output) (w .written));
+          known = l .known;
         };
       }
 
   -- and one that fits it passes
   pub fits-formed : Fits s input c → isFormed (codeOf s .rows) (length input) c ≡ true
-  unfolding isFormed callsBelow refsWithin tableNames givenOf
+  unfolding isFormed callsBelow refsWithin tableNames
   fits-formed h =
       let k = h .counted in let f = h .formed in
-      let rs = rows s input (length (c .output)) in
+      let rs = rows s in
       let n = rs .many in
       both (both (both (both (both
       (has-room (c .register) (c .table) (c .channel) (record { wide = k .wide; tabled = k .tabled; ringed = k .ringed }))
@@ -249,8 +263,9 @@ module _ (s input : List ℕ) (c : Held) (kc : length (c .calls) ≡ 256) (kr : 
         few-refs = k .saved;
         few-sent = k .waiting;
         first = k .first;
+        known = f .known;
       })))
       (in-place (c .numbers) (length (codeOf s .rows)) (length input) (length (c .output)) (record { within = omega (arith, f .within, n); read = f .read; written = k .written })))
-      (of-each (λ x. ltb x (length (codeOf s .rows))) (λ x. x < length (givenOf s input (length (c .output)) .ops)) (λ x h. lt-ltb x (length (codeOf s .rows)) (omega (arith, h, n))) (take (c .numbers .depth) (c .calls)) (f .saved)))
+      (of-each (λ x. ltb x (length (codeOf s .rows))) (λ x. x < length (patchIn s)) (λ x h. lt-ltb x (length (codeOf s .rows)) (omega (arith, h, n))) (take (c .numbers .depth) (c .calls)) (f .saved)))
       (of-each (λ x. leb x 1_000_000_000) (λ x. x ≤ 1_000_000_000) (λ x h. le-leb x 1_000_000_000 h) (take (c .numbers .saved) (c .refs)) (f .pointed)))
-      (names (givenOf s input (length (c .output))) (codeOf s .rows) rs 0 (take (c .numbers .functions) (c .table)) (every (take (c .numbers .functions) (c .table))) (f .rising) (f .marked))
+      (names (givenTo s input c) (codeOf s .rows) rs 0 (take (c .numbers .functions) (c .table)) (every (take (c .numbers .functions) (c .table))) (f .rising) (f .marked))

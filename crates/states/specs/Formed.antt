@@ -6,6 +6,7 @@ use lib.ListN.{length, getD, take}
 use lib.Dec.{leb, ltb, eqb}
 use Rattle.basics.specs.Limits.{mostMarks, lanes, depth, farthest, longest, firstBlock}
 use Rattle.kind_table.specs.Rows as row
+use Rattle.machine_model.specs.State.{byMark}
 use Rattle.machine_numbers.specs.declared.numbers.Numbers.{Numbers}
 use Rattle.machine_step.specs.Held.{Held}
 
@@ -13,16 +14,24 @@ use Rattle.machine_step.specs.Held.{Held}
 unfoldable pub hasRoom : List ℕ → List ℕ → List ℕ → Bool
 hasRoom g ts ch = leb lanes (length g) && leb mostMarks (length ts) && leb depth (length ch)
 
+-- 02, ask 4: "37 also for an unknown mode"
+unfoldable pub isMode : ℕ → Bool
+isMode m = leb m byMark
+
+-- what is tested of a fresh run
+unfoldable pub canStart : ℕ → List ℕ → List ℕ → List ℕ → Bool
+canStart m g ts ch = isMode m && hasRoom g ts ch
+
 -- 02, ask 12: the well-formed state "excludes those lengths", 1 to 29,999
 unfoldable pub isWhole : ℕ → Bool
 isWhole l = eqb l 0 || leb firstBlock l
 
--- "its limits hold"; the ring's first place is one of its places; the length is not one that 02 excludes
+-- "its limits hold"; the ring's first place is one of its places; the length is not one that 02 excludes; the call mode is known
 unfoldable pub inLimits : Numbers → Bool
 unfolding isWhole
 inLimits p =
     leb (p .pointer) farthest && leb (p .length) longest && leb (p .lanes) lanes && leb (p .functions) mostMarks
-    && leb (p .depth) depth && leb (p .saved) depth && leb (p .waiting) depth && ltb (p .first) depth && isWhole (p .length)
+    && leb (p .depth) depth && leb (p .saved) depth && leb (p .waiting) depth && ltb (p .first) depth && isMode (p .mode) && isWhole (p .length)
 
 -- "position is at most the op count", "input place and output count fit their slices"
 unfoldable pub inPlace : Numbers → ℕ → ℕ → ℕ → Bool

@@ -4,16 +4,17 @@ ghost use Prim.Native.Nat.{ℕ, _+_, _≤_, _<_};
 ghost use lib.ListN.{length};
 ghost use Rattle.basics.specs.Limits.{mostOps, depth};
 ghost use Rattle.machine_step.specs.Held.{held};
-ghost use Rattle.states.specs.Formed.{hasRoom, isWhole, inLimits, inPlace, callsBelow, refsWithin, tableNames, isFormed};
+ghost use Rattle.states.specs.Formed.{hasRoom, canStart, isWhole, inLimits, inPlace, callsBelow, refsWithin, tableNames, isFormed};
 use basics::wide::wide_int;
 use basics::wide::wide_short;
 use kind_table::row;
+use machine_numbers::numbers::BY_MARK;
 use machine_numbers::numbers::Numbers;
 use ops::records::Record;
 use patch_reader::reader::Read;
 use testing_device::device::Poked;
 
-pub fn has_room(register: &[u64], table: &[u16], channel: &[u64]) -> bool
+fn has_room(register: &[u64], table: &[u16], channel: &[u64]) -> bool
     ensures { λ r. ⌜ r ≡ hasRoom (now (register .entry)) (now (table .entry)) (now (channel .entry)) ⌝ }
 {
     if register.len() < Record::LANES {
@@ -23,6 +24,16 @@ pub fn has_room(register: &[u64], table: &[u16], channel: &[u64]) -> bool
         return false;
     }
     Poked::CHANNEL <= channel.len()
+}
+
+// What a fresh run asks: a known call mode, and room.
+pub fn can_start(mode: u32, register: &[u64], table: &[u16], channel: &[u64]) -> bool
+    ensures { λ r. ⌜ r ≡ canStart mode (now (register .entry)) (now (table .entry)) (now (channel .entry)) ⌝ }
+{
+    if BY_MARK < mode {
+        return false;
+    }
+    has_room(register, table, channel)
 }
 
 // A tape has no cells, or its first block at least.
@@ -60,6 +71,9 @@ fn in_limits(h: Numbers) -> bool
         return false;
     }
     if Poked::CHANNEL <= h.first {
+        return false;
+    }
+    if BY_MARK < h.mode {
         return false;
     }
     is_whole(h.length)

@@ -2,7 +2,7 @@
 // must give are in crates/test_cases/cases.txt; crates/test_cases/make.py makes this program's standard input and output of it.
 //
 // A case is a head of 16 bytes, then its name, its patch and its input values. The head: what is done (0 the check and a run, 1 joining, 2
-// flattening), the name's length, and by two bytes each the patch's length, the number of input values, of cells, of outputs or of bytes and bodies
+// flattening) and 16 times the call mode, the name's length, and by two bytes each the patch's length, the number of input values, of cells, of outputs or of bytes and bodies
 // that there is room for, and of lanes that the register has room for; the budget by four.
 use answers::flatten::Flattened;
 use answers::join::Joined;
@@ -79,8 +79,8 @@ fn show_check(file: &[u8]) {
     number(answers::check::place_of(v));
 }
 
-// Reads the input values, and runs the patch with the storage that is lent.
-fn show_run(head: &[u8; 16], file: &[u8]) {
+// Reads the input values, and runs the patch in a call mode with the storage that is lent.
+fn show_run(head: &[u8; 16], file: &[u8], mode: u32) {
     let mut register = [0u64; Machine::LANES];
     let mut tape = [0u64; 4096];
     let mut table = [0u16; Machine::MARKS];
@@ -103,6 +103,7 @@ fn show_run(head: &[u8; 16], file: &[u8]) {
         &input[..inputs],
         &mut output[..room],
         budget as u32,
+        mode,
     );
     let answer = r.answer;
     let m = r.machine.numbers;
@@ -212,12 +213,12 @@ fn show_flatten(head: &[u8; 16], file: &[u8]) {
 // Reads the patch, and works it.
 fn work(head: &[u8; 16], file: &mut [u8]) {
     io::read_full(0, file);
-    match head[0] {
+    match head[0] % 16 {
         1 => show_join(head, file),
         2 => show_flatten(head, file),
         _ => {
             show_check(file);
-            show_run(head, file);
+            show_run(head, file, (wide_byte(head[0]) / 16) as u32);
         }
     }
     end_line();

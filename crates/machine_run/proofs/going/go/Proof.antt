@@ -11,15 +11,15 @@ use Rattle.machine_run.proofs.going.go.Tie as tie
 
 abbrev Inv-loop : tie.InvT-loop
 Inv-loop rows counts needs payloads partners turns marks bytes calls₀ refs₀ register₀ tape₀ table₀ channel₀ input output₀ budget
-    depth₀ saved₀ pointer₀ position₀ counted₀ lanes₀ functions₀ first₀ waiting₀ taken₀ written₀ left₀
+    depth₀ saved₀ pointer₀ position₀ counted₀ lanes₀ functions₀ first₀ waiting₀ taken₀ written₀ mode left₀
     calls refs register tape table channel output depth saved pointer position counted lanes functions first waiting taken written left =
     Running bytes input (code rows counts needs payloads partners turns marks bytes) budget
-    (held (running depth₀ saved₀ pointer₀ position₀ counted₀ lanes₀ functions₀ first₀ waiting₀ taken₀ written₀) calls₀ refs₀ register₀ tape₀ table₀ channel₀ output₀)
-    (held (running depth saved pointer position counted lanes functions first waiting taken written) calls refs register tape table channel output) left
+    (held (running depth₀ saved₀ pointer₀ position₀ counted₀ lanes₀ functions₀ first₀ waiting₀ taken₀ written₀ mode) calls₀ refs₀ register₀ tape₀ table₀ channel₀ output₀)
+    (held (running depth saved pointer position counted lanes functions first waiting taken written mode) calls refs register tape table channel output) left
 
 abbrev μ-loop : tie.MeasureT-loop
 μ-loop rows counts needs payloads partners turns marks bytes calls₀ refs₀ register₀ tape₀ table₀ channel₀ input output₀ budget
-    depth₀ saved₀ pointer₀ position₀ counted₀ lanes₀ functions₀ first₀ waiting₀ taken₀ written₀ left₀
+    depth₀ saved₀ pointer₀ position₀ counted₀ lanes₀ functions₀ first₀ waiting₀ taken₀ written₀ mode left₀
     calls refs register tape table channel output depth saved pointer position counted lanes functions first waiting taken written left =
     ahead (length rows) left position
 
