@@ -7,7 +7,8 @@ use Prim.Native.Nat.{ℕ, _≤_, _<_}
 use native.Mathlib.Omega.{arith}
 use lib.Dec.{leb, ltb, eqb}
 use lib.ListN.{length, getD, take}
-use borrow.Author.Tests.{ltb-true, lt-leb, eqb-true}
+use borrow.Author.Tests.{ltb-true, lt-leb, lt-ltb, eqb-true, eq-eqb}
+use Rattle.basics.specs.Pick.{pick}
 use Rattle.basics.proofs.Clash.{clash}
 use Rattle.basics.proofs.Tests.{byCase, and-left, and-right}
 use Rattle.machine_model.specs.Formed.{Rising}
@@ -15,7 +16,17 @@ use Rattle.partners.specs.Columns.{functionsOf, markOf}
 use Rattle.partners.proofs.Marks.{mark-inside}
 use Rattle.searches.specs.Found.{enteredIn, countedIn}
 use Rattle.searches.proofs.Tables.{entered-at}
-use Rattle.control_ops.specs.Control.{asksTable, standsIn}
+use Rattle.control_ops.specs.Control.{asksTable, heldTo, standsIn}
+
+-- what an entry of the table is held to has so many entries too, and says what is meant
+module _ (mode k n : ℕ) (ts fs xs : List ℕ) (e : xs ≡ heldTo mode ts fs) where
+  pub held-inside : k < n → n ≤ length ts → n ≤ length fs → k < length xs
+  unfolding heldTo pick
+  held-inside h l m = byCase (eqb mode 0) (λ z. rw (e, z) (omega arith)) (λ z. rw (e, z) (omega arith))
+
+  pub held-same : k < n → eqb (getD ts k 0) (getD xs k 0) ≡ standsIn mode k n ts fs
+  unfolding heldTo standsIn pick
+  held-same h = byCase (eqb mode 0) (λ z. rw (e, z, lt-ltb k n h, eq-eqb (getD ts k 0) (getD ts k 0) refl) refl) (λ z. rw (e, z, lt-ltb k n h) refl)
 
 -- by either way
 pub either : {A B C : Type 0} → A ⊎ B → (A → C) → (B → C) → C

@@ -30,6 +30,11 @@ functionOf ks p ts =
 unfoldable pub asksTable : ℕ → ℕ → ℕ → Bool
 asksTable mode k n = eqb mode 0 && ltb k n
 
+-- what an entry of the table ts is held to: in the Rust's mode the table itself, by mark the marks fs
+unfoldable pub heldTo : ℕ → List ℕ → List ℕ → List ℕ
+unfolding pick
+heldTo mode ts fs = pick (eqb mode 0) ts fs
+
 -- whether entry k of the table is the mark that is meant: by mark, where it is the k-th of the marks fs
 unfoldable pub standsIn : ℕ → ℕ → ℕ → List ℕ → List ℕ → Bool
 standsIn mode k n ts fs = ltb k n && (eqb mode 0 || eqb (getD ts k 0) (getD fs k 0))

@@ -10,7 +10,7 @@ ghost use Rattle.machine_numbers.specs.declared.numbers.Numbers.{Numbers};
 ghost use Rattle.machine_numbers.specs.Numbers.{atPosition, ofDepth, ofFunctions, ofMode, left, oneList, steered};
 ghost use Rattle.partners.specs.Columns.{turnsOf};
 ghost use Rattle.control_ops.specs.CanSteer.{Steers, CanCall};
-ghost use Rattle.control_ops.specs.Control.{jumpOf, functionOf, standsIn, callOf, retOf, whileOf, ifOf, elsesOf, endsOf};
+ghost use Rattle.control_ops.specs.Control.{jumpOf, functionOf, heldTo, standsIn, callOf, retOf, whileOf, ifOf, elsesOf, endsOf};
 use basics::wide::wide_short;
 use kind_table::row;
 use machine_numbers::numbers::DONE;
@@ -55,18 +55,26 @@ pub fn function(
     JUMPED
 }
 
+// What entry j of the table is held to: in the Rust's mode the table itself, by mark the marks.
+fn held_to<'a>(mode: u32, table: &'a [u16], marks: &'a [u16]) -> &'a [u16]
+    ensures { λ r. ⌜ now r ≡ heldTo mode (now (table .entry)) (now (marks .entry)) ⌝ }
+{
+    if mode == RUST_TABLE {
+        return table;
+    }
+    marks
+}
+
 // Whether entry j of the table is the mark that is meant: in the Rust's mode, where it has so many; by mark, where it is the j-th mark too.
-fn stands(mode: u32, j: usize, n: usize, table: &[u16], marks: &[u16]) -> bool
+fn stands<'a>(mode: u32, j: usize, n: usize, table: &'a [u16], marks: &'a [u16]) -> bool
     requires { ⌜ (n ≤ length (now table)) × (n ≤ length (now marks)) ⌝ }
     ensures { λ r. ⌜ r ≡ standsIn mode j n (now (table .entry)) (now (marks .entry)) ⌝ }
 {
     if n <= j {
         return false;
     }
-    if mode == RUST_TABLE {
-        return true;
-    }
-    table[j] == marks[j]
+    let meant = held_to(mode, table, marks);
+    table[j] == meant[j]
 }
 
 pub fn call(
