@@ -8,6 +8,7 @@ pub mod Outcomes
 pub mod Effects
 pub mod Kept
 pub mod Modes
+pub mod Saved
 pub mod Lengths
 pub mod WordsKept
 pub mod Refused

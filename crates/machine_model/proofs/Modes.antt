@@ -33,7 +33,7 @@ use Rattle.machine_model.proofs.Effects.Effect.{turns, acts}
 -- ---- a step at a control op, from what the op gives
 
 module _ (g : Given) (s : State) {N : ℕ → ℕ → Type 0} {P : State → Type 0} where
-  turn-gives : {c : Control} → op g s ≡ control c → N 21 (length (s .reg)) → Gives (Unit {0}) N P (turn g c s) → Gives (Unit {0}) N P (step g s)
+  pub turn-gives : {c : Control} → op g s ≡ control c → N 21 (length (s .reg)) → Gives (Unit {0}) N P (turn g c s) → Gives (Unit {0}) N P (step g s)
   unfolding step exec
   turn-gives is n h = pick-gives (λ _. ended tt) (λ _. lack-gives {o = exec g (op g s) s} 21 _ (λ _. n) (λ _. rw is h))
 
