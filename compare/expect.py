@@ -31,6 +31,7 @@ AIDED = "agree by mark, with the Rust's table taken away"
 # how a run by mark was put to the Rust, in the judge's numbers
 AS_IT_IS, TAKEN = 1, 2
 BY_MARK = {AS_IT_IS: "by mark, the Rust as it is", TAKEN: "by mark, the Rust's table taken away at a Call"}
+BY_TOTAL = "ended by the step total, the Rust not at its end"
 OUTSIDE = {"agree": AGREE, "port": PORT, "utf8": "comment bytes", "dirty": "lent cells not zero", "big": ROOM}
 AT_THE_OP = {
     (20, "hang"): "endless search", (21, "panic"): "missing lane", (22, "panic"): "cell beyond the length", (23, "went"): "lent tape",
@@ -71,12 +72,12 @@ def build():
 
 
 def judged(judge, data, *flags, timeout=None):
-    """The judge's verdict on each case: sort, number, verdict, kind, NaNs, whether the Rust's panic names the lane, its steps over comments, and how
-    a run by mark was put to it."""
+    """The judge's verdict on each case: sort, number, verdict, kind, NaNs, whether the Rust's panic names the lane, its steps over comments, how a run
+    by mark was put to it, and whether the step total ended the run."""
     told = subprocess.run([judge, *flags], input=data, stdout=subprocess.PIPE, check=True, timeout=timeout).stdout.decode()
     for line in told.splitlines():
-        sort, number, verdict, kind, nans, named, comments, by_mark = line.split()
-        yield int(sort), int(number), verdict, None if kind == "-" else int(kind), int(nans), named == "1", int(comments), int(by_mark)
+        sort, number, verdict, kind, nans, named, *beside = line.split()
+        yield int(sort), int(number), verdict, None if kind == "-" else int(kind), int(nans), named == "1", *map(int, beside)
 
 
 def tally(judge, cases):
@@ -85,7 +86,7 @@ def tally(judge, cases):
     told = list(judged(judge, b"".join(cases)))
     if len(told) != len(cases):
         sys.exit("expect.py: %d verdicts for %d cases" % (len(told), len(cases)))
-    for i, (sort, number, verdict, kind, nans, named, comments, by_mark) in enumerate(told):
+    for i, (sort, number, verdict, kind, nans, named, comments, by_mark, by_total) in enumerate(told):
         found = name(sort, number, verdict, kind)
         if found == AGREE and by_mark == TAKEN:
             found = AIDED
@@ -93,7 +94,7 @@ def tally(judge, cases):
             wrong.append((i, verdict))
         else:
             counts[found] = counts.get(found, 0) + 1
-        for times, beside in ((nans, "NaN bits"), (comments, "comment as a step"), (by_mark, BY_MARK.get(by_mark))):
+        for times, beside in ((nans, "NaN bits"), (comments, "comment as a step"), (by_mark, BY_MARK.get(by_mark)), (by_total, BY_TOTAL)):
             if times:
                 counts[beside] = counts.get(beside, 0) + 1
         if number in (21, 22, 23):

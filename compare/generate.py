@@ -16,9 +16,9 @@ import sys
 sys.path.insert(0, os.path.join(os.path.dirname(os.path.abspath(__file__)), "..", "tools"))
 import command
 import model01
-from lists import CHECK, FLATTEN, FRESH, JOIN, RUN, RUNS, SLICES, STEP, Answer, Case, Machine, record, write
+from lists import CHECK, FLATTEN, FRESH, JOIN, RUN, RUNS, SLICES, STEP, Answer, Case, Machine, record, write, write_machine
 from model01 import (ALLOC, AND, BY_MARK, BY_TABLE, CALL, CELL_OPS, COMMENT, COUNTED, DEREF, ELSE, END, FREE, FUNCTION, GET, GEZ, IF,
-                     LANE_OPS, LOAD, MOVE, OFFSET, PEEK, POKE, PUT, REFER, RETURN, SET, SETF, STORE, WHERE, WHILE, WORD)
+                     LANE_OPS, LOAD, MOST, MOVE, OFFSET, PEEK, POKE, PUT, REFER, RETURN, SET, SETF, STORE, WHERE, WHILE, WORD)
 
 sys.setrecursionlimit(20000)
 EMPTY = [FUNCTION, CALL, RETURN, WHILE, IF, ELSE, END, WHERE, DEREF, REFER, ALLOC, FREE, PEEK, POKE]
@@ -58,6 +58,12 @@ def patch(*ops):
     return b"".join(ops)
 
 
+def no_steps(data):
+    """A count of 0 for each op (02, ask 11); of a file that is refused, which has no ops, three."""
+    number, n, _ = model01.read_patch(data)
+    return [0] * (3 if number else n)
+
+
 def sized(sort, data, tape=0, inputs=(), room=4, budget=100):
     """A run with lent slices of the least lengths, all zeros."""
     c = Case(sort, data)
@@ -68,6 +74,7 @@ def sized(sort, data, tape=0, inputs=(), room=4, budget=100):
     c.table = [0] * 256
     c.channel = [0] * 256
     c.outputs = [0] * room
+    c.counts = no_steps(data)
     return c
 
 
@@ -104,6 +111,16 @@ def both(c):
     """The case, and its twin by mark."""
     yield c
     yield in_mode(c)
+
+
+def counted(c, counts, total=None):
+    """The same run or step with these counts, and a state with the total that they add up to, or with this one (02, ask 11)."""
+    c = copy.copy(c)
+    c.counts = list(counts)
+    if c.sort != FRESH:
+        c.machine = c.machine.copy()
+        c.machine.total = sum(counts) if total is None else total
+    return c
 
 
 def styled(style, cases):
@@ -646,7 +663,85 @@ class Maker:
         return checking(data)
 
 
+def drawn_counts(c):
+    """Counts for a random case, drawn from the rest of it: for a state such as a run may have left, so that it stays a state, and for a fresh run
+    any, since it writes its own."""
+    r = random.Random(c.patch + (write_machine(c.machine) if c.machine else b""))
+    _, _, ops = model01.read_patch(c.patch)
+    many = r.choice([0, 1, 5, 5, 100])
+    counts = [r.randint(0, many) if r.random() < 0.6 else 0 for _ in no_steps(c.patch)]
+    if counts and many and r.random() < 0.2:
+        counts[r.randrange(len(counts))] = r.choice([255, 65_535, (1 << 31) - 1, (1 << 32) - 1, 1 << 40, MOST // 2])
+    if c.sort == FRESH or ops is None:
+        return counts
+    return [0 if o.kind == COMMENT else count for o, count in zip(ops, counts)]
+
+
+def near_the_most(c, r):
+    """A random state whose step total leaves few steps, or none; its style says so."""
+    counts, open_to = c.counts[:], [i for i, o in enumerate(model01.read_patch(c.patch)[2]) if o.kind != COMMENT]
+    if not open_to:
+        return c
+    counts[r.choice(open_to)] += MOST - sum(counts) - r.choice([0, 0, 0, 1, 1, 2, 3, 5, 8, 20])
+    c = counted(c, counts)
+    if r.random() < 0.2:
+        stepped(c)
+    c.style = "near the most"
+    return c
+
+
+def miscounted(c, r):
+    """A random run or step with one thing wrong in its counts; a fresh run may have all but too few or too many."""
+    counts, total = c.counts[:], c.machine.total if c.machine else 0
+    ops = model01.read_patch(c.patch)[2]
+    pick = r.randrange(8)
+    if pick == 0 and counts:
+        counts.pop(r.randrange(len(counts)))
+    elif pick == 1:
+        counts.insert(r.randint(0, len(counts)), r.choice([0, 0, 1]))
+    elif pick == 2 or not counts:
+        total += 1
+    elif pick == 3:
+        counts[r.randrange(len(counts))] += 1
+    elif pick == 4:
+        counts[r.randrange(len(counts))] += 1 << r.randrange(64)
+    elif pick == 5:
+        counts[r.randrange(len(counts))] ^= 1 << r.randrange(54)
+        total = sum(counts)
+        at = [i for i, o in enumerate(ops) if o.kind == COMMENT] or [r.randrange(len(counts))]
+        counts[r.choice(at)] += 1
+        total += r.choice([0, 1])
+    elif pick == 6:
+        i = r.randrange(len(counts))
+        total += MOST + r.choice([0, 1, 2]) - counts[i]
+        counts[i] = total - sum(counts) + counts[i]
+    else:
+        # a sum that is right but for a multiple of 2^64
+        i, more = r.randrange(len(counts)), r.randrange(1, 1 << 64)
+        j = r.randrange(len(counts))
+        counts[i] = (counts[i] + more) & WORD
+        counts[j] = (counts[j] - more) & WORD
+    c = counted(c, [n & WORD for n in counts], total & WORD)
+    c.style = "miscounted"
+    return c
+
+
 def randoms(seed, count):
+    """Random cases with counts; and beside them some whose step total leaves few steps, and some whose counts are no state's."""
+    r = random.Random("counts %d" % seed)
+    for i, c in enumerate(uncounted(seed, count)):
+        if c.sort in RUNS:
+            c = counted(c, drawn_counts(c))
+        yield c
+        is_patch = c.sort in RUNS and model01.read_patch(c.patch)[0] == 0
+        if is_patch and c.sort == RUN and i % 8 == 3:
+            yield near_the_most(c, r)
+        if is_patch and i % 16 == 5:
+            yield miscounted(c, r)
+
+
+def uncounted(seed, count):
+    """Random cases, of which the counts have still to be drawn."""
     maker, caller = Maker(seed), Maker("calls %d" % seed)
     for i in range(count):
         c = maker.case()
@@ -873,6 +968,10 @@ def filled(c, counted=30_000):
     c.table[:3] = [9, 8, 7]
     c.channel[:4] = [11, 12, 13, 14]
     c.outputs[:4] = [21, 22, 23, 24]
+    _, _, ops = model01.read_patch(c.patch)
+    c.counts = [31 + i if c.sort == FRESH or ops is None or ops[i].kind != COMMENT else 0 for i in range(len(c.counts))]
+    if c.sort != FRESH:
+        c.machine.total = sum(c.counts)
     return c
 
 
@@ -1053,6 +1152,7 @@ def annotated(c, before):
         m.position += on[m.position] - before[m.position]
         m.calls = [p + on[p] for p in m.calls]
         c.table = [p + on[p] for p in c.table[:m.functions]] + c.table[m.functions:]
+    c.counts = [k for n, count in zip(before, c.counts) for k in [0] * n + [count]] + [0] * before[-1]
     return c
 
 
@@ -1263,6 +1363,219 @@ def calls():
             yield c
 
 
+# ---- the counts and the step total (02, ask 11)
+
+def three_ways(data, **sizes):
+    """A run, a step and a fresh run with something in every slice, the counts too."""
+    yield filled(state(data, tape=3, **sizes))
+    yield stepped(filled(state(data, tape=3, **sizes)))
+    yield filled(fresh(data, tape=3, **sizes))
+
+
+def not_one_each():
+    """Counts that are too few, too many or none, in runs, steps and fresh runs, also where they add up; then nothing that is lent has changed."""
+    free = op(FREE)
+    for data in (b"", free, NOTE, NOTE + free, op(SET, 5) + op(STORE, 2) + op(POKE) + op(PUT, 0)):
+        for c in three_ways(data):
+            for counts in (c.counts[:-1], c.counts[1:], [], c.counts + [0], [0] + c.counts, c.counts + [1], c.counts + [0] * 2):
+                if len(counts) != len(c.counts):
+                    yield counted(c, counts)
+                    if c.sort != FRESH:
+                        yield counted(c, counts, c.machine.total)
+    # no count at all of no step at all
+    for call in (state, fresh):
+        for data in (free, op(RETURN), NOTE, op(SET, 1) + op(IF)):
+            yield counted(call(data, budget=0), [])
+            yield counted(call(data), [])
+            yield counted(call(data), no_steps(data) + [0])
+    # as many as a patch holds, one less and more; by a fresh run, which looks at no more than their number
+    long = free * 4095 + NOTE
+    for call, some in ((state, (4095, 4096, 4098)), (fresh, (4096, 4097))):
+        for n in some:
+            yield counted(call(long, budget=2), [3] + [0] * (n - 2) + [7 if call == fresh else 0])
+    # the file's number comes first; a machine at its end has the test too, and so has one in another mode
+    for data in (free[:5], free + record(40), op(COMMENT, b"c" * 256)):
+        for c in three_ways(data):
+            yield counted(c, [])
+            yield counted(c, [5])
+    for numbers in (dict(halted=1), dict(position=1), dict(mode=BY_MARK), dict(mode=2), dict(calls=[1]), dict(counted=1)):
+        for counts in ([], [0, 0]):
+            yield from budgets(counted(at_limit(free, **numbers), counts), 0)
+    for mode in (BY_MARK, 2):
+        yield in_mode(counted(filled(fresh(free, tape=3)), []), mode)
+
+
+def not_added_up():
+    """Counts whose sum is another than the total, or the total only modulo a power of two; a comment with a count; and a total over 2^53."""
+    free = op(FREE)
+    patches = {1: free, 2: free + op(PUT, 0), 3: op(SET, 0) + op(IF) + op(END), 4: op(FUNCTION) + op(END) + op(SET, 0) + op(CALL)}
+    for n, data in patches.items():
+        for counts in ([0] * n, list(range(1, n + 1)), [5] + [0] * (n - 1), [0] * (n - 1) + [5]):
+            for off in (0, 1, -1):
+                total = sum(counts) + off
+                if total >= 0:
+                    c = counted(filled(state(data, tape=3)), counts, total)
+                    yield c if (n + off) % 2 else stepped(c)
+    half = 1 << 63
+    wrong = [([WORD], 0), ([WORD], WORD), ([half], half), ([1 << 32], 0), ([0], 1 << 32), ([(1 << 32) + 5], 5), ([5], (1 << 32) + 5),
+             ([WORD], MOST), ([WORD, 1], 0), ([WORD, 2], 1), ([1, WORD], 0), ([half, half], 0), ([half + 3, half + 4], 7), ([WORD - 5, 13], 7),
+             ([MOST, WORD - MOST + 8], 7), ([WORD, WORD], WORD - 1), ([WORD, WORD, 3], 1), ([half, half - 1, 6], 5), ([1 << 62] * 4, 0),
+             ([(1 << 62) + 1] * 4, 4), ([WORD] * 4, WORD - 3), ([WORD, 0, 0, 1], 0), ([1 << 31, 1 << 31, 7, 0], 7), ([65_536, 0, 0, 2], 2),
+             ([256, 3], 3), ([MOST, MOST], 0), ([MOST, MOST], MOST), ([MOST], 0), ([0], MOST), ([MOST, 1], MOST), ([MOST - 1, 2], MOST),
+             ([MOST // 2 + 1, MOST // 2], MOST), ([MOST - 1], MOST), ([MOST, 0], MOST - 1)]
+    # over 2^53, also where they add up
+    over = [MOST + 1, MOST + 2, 2 * MOST, half - 1, half, WORD]
+    wrong += [([n], n) for n in over] + [([n - 1, 1], n) for n in over] + [([MOST, 0], n) for n in over] + [([MOST, 1, 1, 0], MOST + 2)]
+    for i, (counts, total) in enumerate(wrong):
+        c = counted(filled(state(patches[len(counts)], tape=3)), counts, total)
+        yield c
+        if i % 3 == 0:
+            yield stepped(copy.copy(c))
+    # many that are large: 2^64 in all, and 2^64 and the total
+    for counts, total in (([1 << 60] * 16, 0), ([(1 << 60) + 1] * 16, 16), ([1 << 52] * 4096, 0), ([1 << 49] * 17, MOST + (1 << 49)),
+                          ([WORD] * 256, 0)):
+        yield counted(state(free * len(counts), budget=3), counts, total)
+    # a comment's is not zero, whether the total has it or not
+    for data, at in ((NOTE, 0), (NOTE + free, 0), (free + NOTE, 1), (free + NOTE * 2 + free, 1), (free + NOTE * 2 + free, 2)):
+        n = op_count(data)
+        for rest in (0, 4):
+            for count in (1, 2, WORD, WORD - 3):
+                counts = [rest if o.kind != COMMENT else 0 for o in model01.read_patch(data)[2]]
+                total = sum(counts)
+                counts[at] = count
+                for said in (total, (total + count) & WORD):
+                    c = counted(filled(state(data, tape=3)), counts, said)
+                    yield c if count % 2 or said == total else stepped(c)
+        yield counted(fresh(data, budget=n), [9] * n)
+    # a machine at its end, halted or at a comment has the test too
+    for numbers in (dict(halted=1), dict(position=2), dict(position=4), dict(position=4, halted=1)):
+        for counts, total in (([5, 0, 0, 6], 11), ([5, 0, 0, 6], 10), ([5, 0, 0, 6], 12), ([5, 0, 1, 6], 12), ([5, 0, 1, 6], 11),
+                              ([MOST, 0, 0, 1], MOST + 1), ([MOST, 0, 0, 1], MOST), ([WORD, 0, 0, 1], 0)):
+            yield from budgets(counted(at_limit(free + NOTE * 2 + free, **numbers), counts, total), 0)
+
+
+def at_the_most():
+    """Totals of 2^53, where a run makes no step, and of a little less, where it makes those that are left, whatever its budget."""
+    free, put = op(FREE), op(PUT, 1)
+    loop = op(WHILE) + op(model01.NOT, 1) + op(model01.NOT, 1) + op(END)
+    patches = [b"", free, free * 3, NOTE, NOTE + free, free + NOTE, NOTE * 2 + free + NOTE * 2, free + NOTE * 2 + free, loop, op(RETURN),
+               NOTE + op(RETURN) + NOTE, op(SET, 0) + op(CALL) + op(FUNCTION) + op(RETURN) + op(END), op(MOVE, -1), free + op(MOVE, -1),
+               op(MOVE, 1) + NOTE + op(MOVE, -2) + free]
+    for data in patches:
+        places = [i for i, o in enumerate(model01.read_patch(data)[2]) if o.kind != COMMENT]
+        if not places:
+            yield from budgets(filled(state(data, tape=3)), 0, 1)
+            continue
+        for left in (0, 1, 2, 3):
+            # all of it in the first op; or most in the last, and 7 in each of the others
+            others = len(places) - 1
+            for parts in ([MOST - left], [7] * others + [MOST - left - 7 * others])[:1 + (others > 0)]:
+                counts = [0] * op_count(data)
+                for i, count in zip(places, parts):
+                    counts[i] = count
+                yield from budgets(counted(laned(data, lane=1), counts), *((0, 1, 2, 5) if left < 2 else (left - 1, left, 5)))
+    # at the end, halted, at a comment and past one
+    data = NOTE + free + NOTE * 2 + put + NOTE
+    for halted in (0, 1):
+        for position in range(op_count(data) + 1):
+            for left in (0, 1):
+                c = counted(laned(data, position=position, halted=halted), [0, MOST - left - 4, 0, 0, 4, 0])
+                yield from budgets(c, 0, 3)
+    # an op that would be refused: 50 comes first
+    for one, said in REFUSED:
+        said = dict(dict(lanes=7, pointer=3), **said)
+        for left in (0, 1):
+            yield from budgets(annotated(counted(laned(one, **said), [MOST - left]), [1, 0]), 1)
+    # what is left, taken to 32 bits or fewer, would be another number; and the greatest budget
+    for left in (1 << 32, (1 << 32) + 1, (1 << 32) - 1, 1 << 33, 1 << 31, 1 << 16, (1 << 52) + 2):
+        for budget in (1, 4):
+            c = counted(laned(free * 6, lane=1), [1, 0, 0, 0, 0, MOST - left - 1])
+            c.budget = budget
+            yield c
+    for left in (0, 1, 4, 1 << 32):
+        c = counted(laned(free * 6, lane=1), [1, 0, 0, 0, 0, MOST - left - 1])
+        c.budget = (1 << 32) - 1
+        yield c
+        yield in_mode(c)
+
+
+def raised():
+    """Which count is raised: that of the op that was run, at a jump too and in a run that is taken up again, by one; none of an op that is refused."""
+    free, put, less = op(FREE), op(PUT, 1), op(model01.DEC, 1)
+    jumps = [laned(data, lane=lane) for lane in (0, 1) for data in (
+        op(IF) + put + op(END) + put, op(IF) + put + op(ELSE) + less + op(END) + put, op(WHILE) + less + op(END) + put,
+        op(WHILE) + op(ELSE) + put + op(END) + put, op(FUNCTION) + op(END) + put + op(CALL), routine(1) + op(CALL) + put,
+        op(ELSE) + put + op(END) + put, op(CALL) + op(RETURN) + routine(1) + routine(2))]
+    for i, c in enumerate(jumps):
+        n = op_count(c.patch)
+        for mode in (BY_TABLE, BY_MARK) if op(CALL) in Maker.split([c.patch]) else (i % 2,):
+            yield from budgets(in_mode(counted(c, range(1, n + 1)), mode), 1, 2, 3, 9)
+        with_notes = annotated(counted(c, range(1, n + 1)), [1 + k % 2 for k in range(n + 1)])
+        yield from budgets(in_mode(with_notes, i % 2), 1, 2, 9)
+    # each kind once
+    for kind in KINDS:
+        held = {OFFSET: (1, 2), GET: (1,), PUT: (1,), MOVE: (1,), SET: (1,), SETF: (1,), COMMENT: (b"",)}.get(kind, (2,))
+        data = op(kind, *held) + free + op(END)
+        yield from budgets(counted(laned(data, lane=0, cell=1, refs=[2], waiting=1), [0 if kind == COMMENT else 2, 3, 4]), 1)
+        if kind in COUNTED:
+            yield counted(laned(op(kind, 0) + free, lane=0), [2, 3])
+    # after a saved place, and halted where there is none; the comments around stay at 0
+    data = op(RETURN) + free + NOTE * 2 + free + NOTE
+    for calls in ([], [0], [1], [2], [4], [5], [5, 1]):
+        yield from budgets(counted(at_limit(data, calls=calls), [5, 0, 0, 0, 6, 0]), 0, 1, 2, 3)
+    for before, after in ((0, 0), (2, 1)):
+        data = NOTE * before + op(RETURN) + NOTE * after
+        yield from budgets(fresh(data), 0, 1, 2)
+        yield from budgets(counted(at_limit(data), [0] * before + [8] + [0] * after), 1)
+    # counts that are large already
+    for count in (255, 256, 65_535, (1 << 31) - 1, (1 << 32) - 1, 1 << 32, (1 << 52) - 1, MOST - 1):
+        yield from budgets(counted(laned(op(WHILE) + op(END), lane=1), [0, count]), 1)
+        yield from budgets(counted(laned(op(WHILE) + op(END), lane=1), [count, 0]), 4)
+    # refused: at once, after steps, in a loop and after comments
+    for one, said in REFUSED:
+        said = dict(dict(lanes=7, pointer=3), **said)
+        yield from budgets(counted(laned(one, **said), [4]), 2)
+        yield counted(laned(free + one, **said), [0, 4])
+        yield annotated(counted(laned(free + one, **said), [3, 4]), [1, 2, 1])
+    for kind, n in ((LOAD, 20), (STORE, 20), (model01.ADD, 20), (model01.INC, 9)):
+        yield from budgets(counted(laned(free + op(kind, n), lanes=8 if kind != STORE else 1024), [0, 4]), 5)
+    yield fresh(op(SET, 1) + op(WHILE) + op(MOVE, 3) + op(LOAD, 1) + op(model01.NOT, 1) + op(END), tape=10, budget=50)
+    # zeros are written by a fresh run, also where its first step is refused or it makes none, and by no run that is refused before
+    for data in (free, NOTE + free + NOTE, op(MOVE, -1), op(RETURN), CASE9):
+        for budget in (0, 1, 20):
+            for mode in (BY_TABLE, BY_MARK, 2):
+                yield in_mode(filled(fresh(data, tape=3, budget=budget)), mode)
+    for data in (NOTE + free, free[:5]):
+        for name in ("register", "table", "channel"):
+            c = filled(fresh(data, tape=3))
+            setattr(c, name, getattr(c, name)[:-1])
+            yield c
+            c = filled(state(data, tape=3))
+            setattr(c, name, getattr(c, name)[:-1])
+            yield from budgets(c, 3)
+    for numbers in (dict(counted=1), dict(pointer=1_000_000_001), dict(calls=[3]), dict(taken=1), dict(written=5), dict(mode=2)):
+        yield from budgets(counted(at_limit(NOTE + free, **numbers), [0, 4]), 3)
+    # taken up again after each step, in both modes, by a run and by a step
+    again = op(LOAD, 1)
+    turns = patch(NOTE, op(SET, 3), op(WHILE), NOTE, op(STORE, 1), put, op(IF), op(SET, 1), op(CALL), op(ELSE), NOTE, op(END), again, less,
+                  op(END), NOTE, op(RETURN), routine(1, again), routine(2, again), NOTE)
+    for data, steps in ((CASE9, 11), (turns, 44)):
+        for k in range(steps + 1):
+            for mode in (BY_TABLE, BY_MARK):
+                if data == CASE9 or k % 2 == mode:
+                    c = resumed(fresh(data, mode, tape=2, room=12), k)
+                    yield c
+                    yield stepped(copy.copy(c))
+
+
+def tallies():
+    """The counts of the ops and the step total."""
+    yield from not_one_each()
+    yield from not_added_up()
+    yield from at_the_most()
+    yield from raised()
+
+
 # ---- 01's own cases
 
 def paper():
@@ -1350,6 +1663,8 @@ def rusts_own():
             setattr(m, name, v)
         c.answer.place = m.position
         c.answer.register[:len(register)] = [v & WORD for v in register]
+        # each of these goes straight on
+        c.answer.counts[:steps], m.total = [1] * steps, steps
         return c
 
     jump = said(fresh(op(SET, -1) + op(CALL) + op(FUNCTION) + op(END)), 2, 50, [-1], position=1, lanes=1, functions=1, calls=[1])
@@ -1369,7 +1684,7 @@ def rusts_own():
 
 def limits():
     """All the cases but the exhaustive and the random ones."""
-    return itertools.chain(paper(), boundary(), partners(), missing(), comments(), short_comments(), calls(), short_calls())
+    return itertools.chain(paper(), boundary(), partners(), missing(), comments(), short_comments(), calls(), short_calls(), tallies())
 
 
 def answered(cases):

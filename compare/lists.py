@@ -16,7 +16,7 @@ SORTS = ["run", "fresh run", "join", "flatten", "check", "step"]
 # those that run a patch, and of them those that are handed a state
 RUNS, FROM_STATE = (RUN, FRESH, STEP), (RUN, STEP)
 NUMBERS = ["position", "pointer", "counted", "halted", "lanes", "functions", "first", "waiting", "taken", "written"]
-SLICES = ["tape", "register", "table", "channel", "outputs"]
+SLICES = ["tape", "register", "table", "channel", "outputs", "counts"]
 NAMES = {
     0: "//", 1: "set", 2: "fun", 3: "call", 4: "ret", 5: "while", 6: "if", 7: "else", 8: "end", 9: "store", 10: "load",
     11: "move", 12: "where", 13: "deref", 14: "ref", 15: "index", 16: "offset", 17: "bitwise-nand", 18: "bitwise-and",
@@ -29,9 +29,9 @@ NAMES = {
 
 
 class Machine:
-    """The machine's numbers, its two stacks, and its call mode. Without more it is the fresh one of that mode."""
+    """The machine's numbers, its two stacks, its call mode and its step total. Without more it is the fresh one of that mode."""
 
-    __slots__ = NUMBERS + ["calls", "refs", "mode"]
+    __slots__ = NUMBERS + ["calls", "refs", "mode", "total"]
 
     def __init__(self, mode=0):
         for name in NUMBERS:
@@ -40,9 +40,11 @@ class Machine:
         self.calls = []
         self.refs = []
         self.mode = mode
+        self.total = 0
 
     def copy(self):
         m = Machine(self.mode)
+        m.total = self.total
         for name in NUMBERS:
             setattr(m, name, getattr(self, name))
         m.calls = self.calls[:]
@@ -86,7 +88,7 @@ def sparse(values):
 
 
 def write_machine(m):
-    numbers = struct.pack("<13I", *[int(getattr(m, name)) for name in NUMBERS], len(m.calls), len(m.refs), m.mode)
+    numbers = struct.pack("<13IQ", *[int(getattr(m, name)) for name in NUMBERS], len(m.calls), len(m.refs), m.mode, m.total)
     stacks = m.calls[:256] + m.refs[:256]
     return numbers + struct.pack("<%dI" % len(stacks), *stacks)
 
@@ -147,6 +149,7 @@ class Reader:
     def machine(self):
         got = self.numbers("I", 13)
         m = Machine(got[12])
+        m.total = self.numbers("Q", 1)[0]
         for name, v in zip(NUMBERS, got):
             setattr(m, name, v)
         m.calls = self.numbers("I", min(got[10], 256)) + [0] * max(0, got[10] - 256)
@@ -251,12 +254,14 @@ def patch_words(patch):
     return ", ".join(out)
 
 
-def slice_words(values):
-    return "%d long {%s}" % (len(values), ", ".join("%d: %d" % (i, signed(v)) for i, v in enumerate(values) if v))
+def slice_words(said, name):
+    """A slice of a case or of an answer. A count has no sign."""
+    values, shown = getattr(said, name), int if name == "counts" else signed
+    return "%s %d long {%s}" % (name, len(values), ", ".join("%d: %d" % (i, shown(v)) for i, v in enumerate(values) if v))
 
 
 def machine_words(m):
-    return ", ".join("%s %d" % (n, getattr(m, n)) for n in NUMBERS) + ", calls %s, refs %s, mode %d" % (m.calls, m.refs, m.mode)
+    return ", ".join("%s %d" % (n, getattr(m, n)) for n in NUMBERS) + ", calls %s, refs %s, mode %d, total %d" % (m.calls, m.refs, m.mode, m.total)
 
 
 def show(c):
@@ -265,13 +270,13 @@ def show(c):
     if c.sort in RUNS:
         mode = ", mode %d" % c.mode if c.sort == FRESH else ""
         out.append("  budget %d%s, inputs %s" % (c.budget, mode, [signed(v) for v in c.inputs]))
-        out += ["  %s %s" % (name, slice_words(getattr(c, name))) for name in SLICES]
+        out += ["  " + slice_words(c, name) for name in SLICES]
         if c.sort in FROM_STATE:
             out.append("  from: " + machine_words(c.machine))
         if a:
             out.append("  expected: number %d, %d steps, place %d, lane %d" % (a.number, a.steps, a.place, a.lane))
             out.append("    " + machine_words(a.machine))
-            out += ["    %s %s" % (name, slice_words(getattr(a, name))) for name in SLICES]
+            out += ["    " + slice_words(a, name) for name in SLICES]
     elif c.sort in (JOIN, FLATTEN):
         out.append("  room %d bytes, each first %d" % (c.room, c.fill) + (", %d bodies" % c.bodies if c.sort == FLATTEN else ""))
         if a:

@@ -17,6 +17,8 @@ BLOCK = 100_000
 FIRST = 30_000
 # 02, ask 4: the call modes, the Rust's table and by mark
 BY_TABLE, BY_MARK = range(2)
+# 02, ask 11: "over 2 to the power 53" no step total goes
+MOST = 1 << 53
 WORD = (1 << 64) - 1
 LEAST = 1 << 63
 NAN = 0x7FF8000000000000
@@ -235,12 +237,26 @@ def partner_of_end(ops, i):
 
 # ---- a step
 
+def add_up(ops, c, m):
+    """02, ask 11: "37 when the counts are not one per op, a comment's is not zero, they do not add up to the state's step total, or it is over 2 to
+    the power 53". A fresh run writes its own counts, so of these only their number matters."""
+    if len(c.counts) != len(ops):
+        return False
+    if c.sort == FRESH:
+        return True
+    if any(count for op, count in zip(ops, c.counts) if op.kind == COMMENT):
+        return False
+    return sum(c.counts) == m.total <= MOST
+
+
 def is_state(ops, c, m):
     """37's test: a well-formed state in lent room that is long enough."""
     if len(c.register) < LANES or len(c.table) < MARKS or len(c.channel) < DEPTH:
         return False
     # 02, ask 4: "37 also for an unknown mode"
     if m.mode not in (BY_TABLE, BY_MARK):
+        return False
+    if not add_up(ops, c, m):
         return False
     if m.pointer > FARTHEST or m.counted > LONGEST or m.lanes > LANES or m.functions > MARKS:
         return False
@@ -479,6 +495,8 @@ def run(c):
     if c.sort == FRESH:
         a.tape[:] = [0] * len(a.tape)
         a.register[:LANES] = [0] * LANES
+        # "a lent count for each op, starting at zero"
+        a.counts[:] = [0] * len(a.counts)
     while True:
         pass_comments(ops, m)
         a.place = m.position
@@ -488,11 +506,18 @@ def run(c):
             # a step that was made is 0
             a.number = 0 if c.sort == STEP else 50
             return a
+        # "a total equal to that ends a run with 50, in the budget's place"
+        if m.total == MOST:
+            a.number = 50
+            return a
         a.number = step(ops, c.inputs, m, a)
         a.lane = missing_lane(a.number, m, a)
         if a.number:
             return a
         a.steps += 1
+        # "raised with that op's execution"
+        a.counts[a.place] += 1
+        m.total += 1
 
 
 # ---- the check

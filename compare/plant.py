@@ -19,6 +19,17 @@ MARKS = "    marks = [i for i, op in enumerate(ops) if op.kind == FUNCTION]\n"
 MARK = "    return marks[k] if k < len(marks) else None\n"
 ENTER = "        enter(m, s.table, mark)\n"
 NO_STATE = "        a.number, a.place = 37, 0\n"
+BAD_FILE = "    if a.number:\n        return a\n    if not is_state"
+ONE_EACH = "    if len(c.counts) != len(ops):\n        return False\n"
+IS_FRESH = "    if c.sort == FRESH:\n        return True\n"
+RESTS = "    if any(count for op, count in zip(ops, c.counts) if op.kind == COMMENT):\n        return False\n"
+SUM = "    return sum(c.counts) == m.total <= MOST\n"
+ZEROS = "        a.counts[:] = [0] * len(a.counts)\n"
+OVER = "        if m.halted or m.position == len(ops):\n            return a\n"
+MOST = "        if m.total == MOST:\n            a.number = 50\n            return a\n"
+STOP = "        if a.number:\n            return a\n        a.steps += 1\n"
+RAISE = "        a.counts[a.place] += 1\n"
+TOTAL = "        m.total += 1\n"
 # what is wrong, the line of model01.py that says it right, and the wrong one
 READINGS = [
     ("End goes back to test the While again", "                m.position = partner\n", "                m.position = partner - 1\n"),
@@ -47,7 +58,7 @@ READINGS = [
     ("a length of 1 is taken", "    if 0 < m.counted < FIRST:\n", "    if 1 < m.counted < FIRST:\n"),
     ("a length of 30,000 is no state", "    if 0 < m.counted < FIRST:\n", "    if 0 < m.counted <= FIRST:\n"),
     ("a length of 0 is no state", "    if 0 < m.counted < FIRST:\n", "    if m.counted < FIRST and c.sort != FRESH:\n"),
-    ("a short tape is seen before the file", "    if a.number:\n        return a\n    if not is_state",
+    ("a short tape is seen before the file", BAD_FILE,
      "    if a.number:\n        if 0 < m.counted < FIRST:\n            a.number, a.place = 37, 0\n        return a\n    if not is_state"),
     ("a step that was made says 50", "a.number = 0 if c.sort == STEP else 50", "a.number = 50"),
     ("gez-f is a test of the sign bit", "int(as_float(a) >= 0.0)", "int(not a & LEAST)"),
@@ -208,9 +219,9 @@ OF_MODES = [
     taken_as("a step has no test of the mode", "c.sort == STEP and was > BY_MARK", "BY_TABLE"),
     taken_as("a fresh run has no test of the mode", "c.sort == FRESH and was > BY_MARK", "BY_TABLE"),
     taken_as("an unknown mode is answered as the Rust's", "False", "was", "was if was <= BY_MARK else BY_TABLE"),
-    ("a mode is seen before the file", "    if a.number:\n        return a\n    if not is_state",
+    ("a mode is seen before the file", BAD_FILE,
      "    if a.number:\n        if m.mode > BY_MARK:\n            a.number, a.place = 37, 0\n        return a\n    if not is_state"),
-    ("a fresh run with a bad file answers the Rust's mode", "    if a.number:\n        return a\n    if not is_state",
+    ("a fresh run with a bad file answers the Rust's mode", BAD_FILE,
      "    if a.number:\n        if c.sort == FRESH:\n            m.mode = BY_TABLE\n        return a\n    if not is_state"),
     ("a fresh run with 37 answers the Rust's mode", NO_STATE, NO_STATE + "        if c.sort == FRESH:\n            m.mode = BY_TABLE\n"),
     ("an unknown mode is refused after the zeros are written to the tape", NO_STATE,
@@ -220,6 +231,163 @@ OF_MODES = [
     ("an unknown mode is refused after the comments are passed", NO_STATE, NO_STATE + "        if m.mode > BY_MARK:\n    " + PASS),
     ("an unknown mode of a machine at its end is no refusal", "    if m.mode not in (BY_TABLE, BY_MARK):\n",
      "    if m.mode not in (BY_TABLE, BY_MARK) and not m.halted and m.position < len(ops):\n"),
+]
+
+
+def unless(when, line):
+    """The line, but not then."""
+    return "        if not (%s):\n    %s" % (when, line)
+
+
+def start(line):
+    """A line before the first step."""
+    return "    while True:\n" + PASS, line + "    while True:\n" + PASS
+
+
+HALTS = "m.halted"
+FROM = "c.sort not in (FRESH, STEP)"
+WHICH = {"run": FROM, "step": "c.sort == STEP", "fresh run": "c.sort == FRESH"}
+# of the counts and the step total (02, ask 11)
+OF_COUNTS = [
+    ("a refused op raises its count", STOP, STOP.replace("            return a\n", "            a.counts[a.place] += 1\n            return a\n")),
+    ("a refused op raises the total", STOP, STOP.replace("            return a\n", "            m.total += 1\n            return a\n")),
+    ("a refused op raises its count and the total", STOP,
+     STOP.replace("            return a\n", "            a.counts[a.place] += 1\n            m.total += 1\n            return a\n")),
+    ("a refused op takes its count back to 0", STOP, STOP.replace("            return a\n", "            a.counts[a.place] = 0\n            return a\n")),
+    ("the op that comes next is counted", RAISE, "        a.counts[min(m.position, len(ops) - 1)] += 1\n"),
+    ("the op before the next one is counted", RAISE, "        a.counts[m.position - 1] += 1\n"),
+    ("a bracket's jump counts the op that it goes to", RAISE,
+     "        a.counts[a.place if ops[a.place].kind in (CALL, RETURN) else m.position - 1] += 1\n"),
+    ("a Call counts its mark", RAISE, "        a.counts[m.position - 1 if ops[a.place].kind == CALL else a.place] += 1\n"),
+    ("a Call by mark counts its mark", RAISE, "        a.counts[m.position - 1 if ops[a.place].kind == CALL and m.mode == BY_MARK else a.place] += 1\n"),
+    ("a Call counts its mark too", RAISE, RAISE + "        if ops[a.place].kind == CALL:\n            a.counts[m.position - 1] += 1\n"),
+    ("a Return counts its Call", RAISE, "        a.counts[m.position - 1 if ops[a.place].kind == RETURN else a.place] += 1\n"),
+    ("an End that goes back counts its While", RAISE,
+     "        a.counts[m.position - 1 if ops[a.place].kind == END and m.position <= a.place else a.place] += 1\n"),
+    ("an End that goes back counts its While too", RAISE,
+     RAISE + "        if ops[a.place].kind == END and m.position <= a.place:\n            a.counts[m.position - 1] += 1\n"),
+    ("an If or While that jumps is not counted", RAISE, unless("ops[a.place].kind in (IF, WHILE) and m.position != a.place + 1", RAISE)),
+    ("an End is not counted", RAISE, unless("ops[a.place].kind == END", RAISE)),
+    ("an Else is not counted", RAISE, unless("ops[a.place].kind == ELSE", RAISE)),
+    ("a Function that is passed is not counted", RAISE, unless("ops[a.place].kind == FUNCTION", RAISE)),
+    ("an op that does nothing is not counted", RAISE, unless("ops[a.place].kind == 258", RAISE)),
+    ("an op of no lanes is not counted", RAISE, unless("ops[a.place].kind in CELL_OPS | LANE_OPS and ops[a.place].n == 0", RAISE)),
+    ("a Return that halts is not counted", RAISE, unless(HALTS, RAISE)),
+    ("a Return that halts does not raise the total", TOTAL, unless(HALTS, TOTAL)),
+    ("a Return that halts raises neither", RAISE + TOTAL, unless(HALTS, RAISE) + unless(HALTS, TOTAL)),
+    ("a Return to a saved place is not counted", RAISE, unless("ops[a.place].kind == RETURN and not m.halted", RAISE)),
+    ("the last op is not counted", RAISE, unless("m.position == len(ops)", RAISE)),
+    ("the last step of the budget is not counted", RAISE, unless("a.steps == c.budget", RAISE)),
+    ("a comment is counted", PASS, "        was = m.position\n" + PASS + "        for i in range(was, m.position):\n            a.counts[i] += 1\n"),
+    ("a comment raises the total", PASS, "        was = m.position\n" + PASS + "        m.total += m.position - was\n"),
+    ("a comment raises both", PASS,
+     "        was = m.position\n" + PASS + "        for i in range(was, m.position):\n            a.counts[i] += 1\n            m.total += 1\n"),
+    ("an op is counted at the comment before it", RAISE, "        a.counts[a.place - (a.place > 0 and ops[a.place - 1].kind == COMMENT)] += 1\n"),
+    ("an op is counted at its place among the ops that are no comments", RAISE,
+     "        a.counts[sum(op.kind != COMMENT for op in ops[:a.place])] += 1\n"),
+    ("a count is raised by the comments too", RAISE, "        a.counts[a.place] += 1 + (a.place > 0 and ops[a.place - 1].kind == COMMENT)\n"),
+    ("the total is not raised", TOTAL, ""),
+    ("the counts are not raised", RAISE, ""),
+    ("a step does not raise the total", TOTAL, unless("c.sort == STEP", TOTAL)),
+    ("a step does not raise the count", RAISE, unless("c.sort == STEP", RAISE)),
+    ("a run from a state does not raise the total", TOTAL, unless(FROM, TOTAL)),
+    ("a run from a state starts its total at 0", *start("    if c.sort != FRESH:\n        m.total = 0\n")),
+    ("a run from a state starts its counts at 0", *start("    if c.sort != FRESH:\n        a.counts[:] = [0] * len(ops)\n")),
+    ("a run from a state starts both at 0", *start("    if c.sort != FRESH:\n        m.total = 0\n        a.counts[:] = [0] * len(ops)\n")),
+    ("a count has 8 bits", RAISE, RAISE + "        a.counts[a.place] %= 256\n"),
+    ("a count has 16 bits", RAISE, RAISE + "        a.counts[a.place] %= 1 << 16\n"),
+    ("a count has 31 bits", RAISE, RAISE + "        a.counts[a.place] %= 1 << 31\n"),
+    ("a count has 32 bits", RAISE, RAISE + "        a.counts[a.place] %= 1 << 32\n"),
+    ("a count stays at 2^32 - 1", RAISE, RAISE + "        a.counts[a.place] = min(a.counts[a.place], (1 << 32) - 1)\n"),
+    ("a count of 0 stays at 0", RAISE, unless("a.counts[a.place] == 0", RAISE)),
+    ("a count is 1 at most", RAISE, "        a.counts[a.place] = 1\n"),
+    ("a total has 32 bits", TOTAL, TOTAL + "        m.total %= 1 << 32\n"),
+    ("a total has 53 bits", TOTAL, TOTAL + "        m.total %= 1 << 53\n"),
+    ("the counts' number is not tested", ONE_EACH, ""),
+    ("too many counts are taken", ONE_EACH, ONE_EACH.replace("!=", "<")),
+    ("too few counts are taken", ONE_EACH, ONE_EACH.replace("!=", ">")),
+    *[("too many counts are taken by a " + which, ONE_EACH, "    if len(c.counts) != len(ops) and not (%s and len(c.counts) > len(ops)):\n"
+       "        return False\n" % when) for which, when in WHICH.items()],
+    *[("too few counts are taken by a " + which, ONE_EACH, "    if len(c.counts) != len(ops) and not (%s and len(c.counts) < len(ops)):\n"
+       "        return False\n" % when) for which, when in WHICH.items()],
+    ("no counts stand for zeros", ONE_EACH, "    if len(c.counts) not in (0, len(ops)):\n        return False\n"),
+    ("a count for each op that is no comment", ONE_EACH, "    if len(c.counts) != sum(op.kind != COMMENT for op in ops):\n        return False\n"),
+    ("a comment's count is not tested", RESTS, ""),
+    ("a comment's count is not tested and not added", RESTS + SUM,
+     "    return sum(count for op, count in zip(ops, c.counts) if op.kind != COMMENT) == m.total <= MOST\n"),
+    ("the first comment's count alone is tested", RESTS, RESTS.replace("if any(count for op, count in zip(ops, c.counts) if op.kind == COMMENT)",
+                                                                     "if ([n for op, n in zip(ops, c.counts) if op.kind == COMMENT] + [0])[0]")),
+    ("a comment's count may be 1", RESTS, RESTS.replace("any(count for", "any(count > 1 for")),
+    ("a fresh run tests its counts", IS_FRESH, ""),
+    ("a fresh run tests the counts of its comments", IS_FRESH + RESTS, RESTS + IS_FRESH),
+    ("the sum is not tested", SUM, "    return m.total <= MOST\n"),
+    ("the sum may be less", SUM, "    return sum(c.counts) <= m.total <= MOST\n"),
+    ("the sum may be more", SUM, "    return sum(c.counts) >= m.total <= MOST\n"),
+    ("the sum is one less", SUM, "    return sum(c.counts) in (m.total, m.total - 1) and m.total <= MOST\n"),
+    ("the sum leaves out the last op", SUM, "    return sum(c.counts[:-1]) == m.total <= MOST\n"),
+    ("the sum leaves out the first op", SUM, "    return sum(c.counts[1:]) == m.total <= MOST\n"),
+    ("the sum is modulo 2^64", SUM, "    return sum(c.counts) & WORD == m.total <= MOST\n"),
+    ("the sum is modulo 2^63", SUM, "    return sum(c.counts) % LEAST == m.total <= MOST\n"),
+    ("the sum is modulo 2^53", SUM, "    return (sum(c.counts) - m.total) % MOST == 0 and m.total <= MOST\n"),
+    ("the sum is modulo 2^32", SUM, "    return (sum(c.counts) - m.total) % (1 << 32) == 0 and m.total <= MOST\n"),
+    ("the sum has signs", SUM, "    return sum(map(signed, c.counts)) == m.total <= MOST\n"),
+    ("the sum stays at 2^53", SUM, "    return min(sum(c.counts), MOST) == m.total\n"),
+    ("the sum is a float's", SUM, "    return sum(map(float, c.counts)) == float(m.total) and m.total <= MOST\n"),
+    ("the sum of a step is not tested", SUM, "    return (c.sort == STEP or sum(c.counts) == m.total) and m.total <= MOST\n"),
+    ("the sum of a run is not tested", SUM, "    return (%s or sum(c.counts) == m.total) and m.total <= MOST\n" % FROM),
+    ("the sum of a machine at its end is not tested", SUM,
+     "    return (m.halted or m.position == len(ops) or sum(c.counts) == m.total) and m.total <= MOST\n"),
+    ("a total of 2^53 + 1 is taken", SUM, "    return sum(c.counts) == m.total <= MOST + 1\n"),
+    ("any total is taken", SUM, "    return sum(c.counts) == m.total\n"),
+    ("a total of 2^53 is no state", SUM, "    return sum(c.counts) == m.total < MOST\n"),
+    ("a total of 2^53 is no state but at the end", SUM, "    return sum(c.counts) == m.total < MOST + (m.halted or m.position == len(ops))\n"),
+    ("a total over 2^53 is taken as 2^53", SUM, "    return min(sum(c.counts), MOST) == min(m.total, MOST)\n"),
+    ("2^53 ends no run", MOST, ""),
+    ("2^53 ends no step", MOST, MOST.replace("m.total == MOST", "m.total == MOST and c.sort != STEP")),
+    ("2^53 ends a run only where it starts", MOST, MOST.replace("m.total == MOST", "m.total == MOST and a.steps == 0")),
+    ("2^53 ends a run only where its steps lead to it", MOST, MOST.replace("m.total == MOST", "m.total == MOST and a.steps")),
+    ("2^53 - 1 ends a run", MOST, MOST.replace("m.total == MOST", "m.total >= MOST - 1")),
+    ("2^53 + 1 ends a run", MOST, MOST.replace("m.total == MOST", "m.total == MOST + 1")),
+    ("2^53 is tested before the end", OVER, MOST + OVER),
+    ("2^53 is tested before the end, but not of a halted machine", OVER, MOST.replace("m.total == MOST", "m.total == MOST and not m.halted") + OVER),
+    ("2^53 of a halted machine is 50", OVER, MOST.replace("m.total == MOST", "m.total == MOST and m.halted") + OVER),
+    ("2^53 is tested before comments are passed", PASS,
+     MOST.replace("m.total == MOST:", "m.total == MOST and not m.halted and m.position < len(ops):\n            a.place = m.position") + PASS),
+    ("2^53 passes no comments", PASS, "        if m.total != MOST:\n    " + PASS),
+    ("2^53 gives 37", MOST, MOST.replace("a.number = 50", "a.number, a.place = 37, 0")),
+    ("2^53 gives 0", MOST, MOST.replace("            a.number = 50\n", "")),
+    ("2^53 gives 0 to a step", MOST, MOST.replace("a.number = 50", "a.number = 0 if c.sort == STEP else 50")),
+    ("2^53 gives place 0", MOST, MOST.replace("a.number = 50", "a.number, a.place = 50, 0")),
+    ("2^53 says that the budget's steps were made", MOST, MOST.replace("a.number = 50", "a.number, a.steps = 50, c.budget")),
+    ("2^53 says that no steps were made", MOST, MOST.replace("a.number = 50", "a.number, a.steps = 50, 0")),
+    ("2^53 halts", MOST, MOST.replace("a.number = 50", "a.number, m.halted = 50, 1")),
+    ("2^53 counts one more", MOST, MOST.replace("a.number = 50", "a.number = 50\n            a.counts[a.place] += 1")),
+    ("a step that makes it 2^53 says 50", "            a.number = 0 if c.sort == STEP else 50\n",
+     "            a.number = 0 if c.sort == STEP and not (m.total == MOST and a.steps) else 50\n"),
+    ("what is left of the total has 32 bits", MOST, MOST.replace("m.total == MOST", "m.total == MOST or a.steps == (MOST - c.machine.total) % (1 << 32)")
+     .replace("c.machine.total", "(c.machine.total if c.machine else 0)")),
+    ("the budget takes no account of the steps before", "        if a.steps == c.budget:\n", "        if a.steps == c.budget or m.total == c.budget:\n"),
+    ("a fresh run leaves the counts as they are", ZEROS, ""),
+    ("a fresh run with no budget leaves the counts", ZEROS, "        if c.budget:\n    " + ZEROS),
+    ("a fresh run zeroes the first count alone", ZEROS, "        a.counts[:1] = [0][:len(a.counts)]\n"),
+    ("a fresh run zeroes no count of a comment", ZEROS, "        a.counts[:] = [n if op.kind == COMMENT else 0 for op, n in zip(ops, a.counts)]\n"),
+    ("a fresh run takes its total from the counts", ZEROS, "        m.total = sum(a.counts)\n" + ZEROS),
+    ("a fresh run with a bad file zeroes the counts", BAD_FILE,
+     "    if a.number:\n        if c.sort == FRESH:\n            a.counts[:] = [0] * len(a.counts)\n        return a\n    if not is_state"),
+    ("a fresh run with 37 zeroes the counts", NO_STATE, NO_STATE + "        if c.sort == FRESH:\n            a.counts[:] = [0] * len(a.counts)\n"),
+    ("a fresh run with 37 zeroes counts that are one an op", NO_STATE,
+     NO_STATE + "        if c.sort == FRESH and len(a.counts) == len(ops):\n            a.counts[:] = [0] * len(a.counts)\n"),
+    ("a fresh run zeroes the tape before it looks at the counts", NO_STATE,
+     NO_STATE + "        if c.sort == FRESH and len(a.counts) != len(ops):\n            a.tape[:] = [0] * len(a.tape)\n"),
+    ("a fresh run zeroes the register before it looks at the counts", NO_STATE,
+     NO_STATE + "        if c.sort == FRESH and len(a.counts) != len(ops):\n            a.register[:LANES] = [0] * LANES\n"),
+    ("37 zeroes the counts of a state", NO_STATE, NO_STATE + "        if c.sort != FRESH:\n            a.counts[:] = [0] * len(a.counts)\n"),
+    ("37 takes the total from the counts", NO_STATE, NO_STATE + "        if c.sort != FRESH:\n            m.total = sum(a.counts) & WORD\n"),
+    ("37 of the counts passes comments", NO_STATE, NO_STATE + "        if not add_up(ops, c, m):\n    " + PASS),
+    ("the counts are seen before the file", BAD_FILE,
+     "    if a.number:\n        if c.counts[:1] == [5]:\n            a.number, a.place = 37, 0\n        return a\n    if not is_state"),
+    ("no counts are seen before the file", BAD_FILE,
+     "    if a.number:\n        if not c.counts:\n            a.number, a.place = 37, 0\n        return a\n    if not is_state"),
 ]
 
 
@@ -253,7 +421,7 @@ def main(args):
         with open(os.path.join(HERE, "..", "lists", name + ".list"), "rb") as f:
             cases += [(c, data) for data in lists.split(f.read()) for c in lists.read(data)]
     missed = 0
-    for what, wrong in planted(READINGS + OF_COMMENTS + OF_MODES):
+    for what, wrong in planted(READINGS + OF_COMMENTS + OF_MODES + OF_COUNTS):
         found = sum(finds(wrong, c, data) for c, data in cases)
         print("%5d  %s" % (found, what), flush=True)
         missed += not found

@@ -1,20 +1,25 @@
 #!/usr/bin/env python3
-"""Fills the answers into docs/GUIDE.md: the examples stand there, and what they give is worked out by compare/model01.py.
+"""Fills the answers into docs/GUIDE.md: the examples stand there, and what they give is worked out by compare/model01.py; and into README.md
+what its commands print.
 
     guide.py             writes the answers
-    guide.py --check     says which lines of the guide are not what the model gives, and writes nothing
+    guide.py --check     says which lines of the two are not what the model gives, and writes nothing
     guide.py --list      writes all examples with their expected answers to standard output, as a list of cases (docs/REPLAY.md)
 
 An example is one of these.
 - A row of a table whose last two columns are 'Example' and 'Gives'. Example: the ops in a code span, with ';' between them, as
   patches/make.py takes them; before it 'join' or 'flatten' where it is no run; after it words with a value in a code span: input, cells,
-  outputs, budget, mode (the call mode), position and length (of a run from a state), room and bodies (of a join or a flattening). 'N * ' before an op or a value repeats it.
+  outputs, budget, mode (the call mode), counts (those lent, one for each op if they are not named), position, length and total (of a run from a
+  state), room and bodies (of a join or a flattening). 'N * ' before an op or a value repeats it.
 - A block 'patch' with one op a line, and after it a block 'trace', which has a line for each step, with what its first line names.
+- In a block 'console' each './feltcairn run', of a file of patches/ or of ops after "printf '%s\\n'": what it prints. Other commands stay as they are.
 Gives: what to show, each a word and its values; the words are written by hand, the values here. A refusal is always shown.
 A table whose first column is 'Kind' or 'No.' has the example of that kind or number: each kind and each number must have one.
 """
+import difflib
 import pathlib
 import re
+import shlex
 import struct
 import sys
 
@@ -26,7 +31,9 @@ import model01  # noqa: E402
 from make import KINDS, assemble_op  # noqa: E402
 
 GUIDE = ROOT / "docs" / "GUIDE.md"
+README = ROOT / "README.md"
 SHOWN = 8
+BUSIEST = 10
 NUMBERS = set(range(1, 14)) | set(range(20, 38)) - {31} | {40, 50}
 # as ./feltcairn run runs a patch
 USUAL = {"input": "", "cells": "4096", "outputs": "4096", "budget": "100000"}
@@ -57,13 +64,23 @@ def ops_of(text):
     return ops
 
 
+def assembled(ops):
+    return b"".join(assemble_op(op) for op in ops)
+
+
 class Example:
-    def __init__(self, ops, verb="run", **said):
+    def __init__(self, ops, verb="run", patch=None, **said):
         self.verb, self.ops, self.said = verb, ops, said
-        self.patch = b"".join(assemble_op(op) for op in ops)
+        self.patch = assembled(ops) if patch is None else patch
 
     def number(self, word):
         return int(self.said.get(word, USUAL.get(word, "0")))
+
+    def counts(self):
+        """The counts that are lent: those said, or zeros, one for each op."""
+        if "counts" in self.said:
+            return [int(v) for v in self.said["counts"].split()]
+        return [0] * len(model01.read_patch(self.patch)[2] or [])
 
     def case(self, budget=None):
         """The case of the list, with the model's answer."""
@@ -72,15 +89,15 @@ class Example:
             marks = sum(op == "fun" for op in self.ops)
             c.room, c.fill, c.bodies = int(self.said.get("room", len(self.patch))), 0xA5, int(self.said.get("bodies", marks))
         else:
-            c = lists.Case(lists.RUN if {"position", "length"} & set(self.said) else lists.FRESH, self.patch)
+            c = lists.Case(lists.RUN if {"position", "length", "total"} & set(self.said) else lists.FRESH, self.patch)
             c.budget = self.number("budget") if budget is None else budget
             c.mode = self.number("mode")
             c.inputs = [int(v) % 2**64 for v in self.said.get("input", "").split()]
             c.tape, c.outputs = [0] * self.number("cells"), [0] * self.number("outputs")
-            c.register, c.table, c.channel = [0] * 1024, [0] * 256, [0] * 256
+            c.register, c.table, c.channel, c.counts = [0] * 1024, [0] * 256, [0] * 256, self.counts()
             if c.sort == lists.RUN:
                 c.machine = lists.Machine(self.number("mode"))
-                c.machine.position, c.machine.counted = self.number("position"), self.number("length")
+                c.machine.position, c.machine.counted, c.machine.total = self.number("position"), self.number("length"), self.number("total")
         c.answer = model01.answer(c)
         return c
 
@@ -113,6 +130,12 @@ def cells(tape):
     return tape
 
 
+def busy(counts):
+    """Place and count of the ten busiest: the higher count first, the lower place on ties, zeros left out."""
+    worked = sorted((-count, place) for place, count in enumerate(counts) if count)
+    return ["%d %d" % (place, -less) for less, place in worked[:BUSIEST]]
+
+
 def op_list(patch):
     """The ops of a good patch, as an example writes them."""
     out, at = [], 0
@@ -142,6 +165,9 @@ SHOW = {
     "channel": lambda c, a: shortened(signed(a.channel[(a.machine.first + i) % 256] for i in range(a.machine.waiting))),
     "left": lambda c, a: shortened(signed(c.inputs[a.machine.taken:])),
     "out": lambda c, a: shortened(signed(a.outputs[:a.machine.written])),
+    "counts": lambda c, a: shortened([str(count) for count in a.counts]),
+    "total": lambda c, a: str(a.machine.total),
+    "busy": lambda c, a: " ".join(busy(a.counts)) or "none",
     "joined": lambda c, a: op_list(a.written),
     "flat": lambda c, a: op_list(a.written),
     "bodies": lambda c, a: ", ".join("number %d: op %d, %d ops" % body for body in a.bodies) or "none",
@@ -185,6 +211,37 @@ def traced(example, words):
     return ["  ".join(cell.ljust(width) for cell, width in zip(row, widths)).rstrip() for row in rows]
 
 
+# ---- what a command prints
+
+RUN = re.compile(r"(?:printf '%s\\n' (.*) \| python3 patches/make\.py - \| )?\./feltcairn run (--by-mark )?(-|patches/\S+\.patch)")
+
+
+def printed(command):
+    """The lines of a './feltcairn run'; None of another command."""
+    found = RUN.fullmatch(command)
+    if not found or bool(found[1]) != (found[3] == "-"):
+        return None
+    patch = assembled(shlex.split(found[1])) if found[1] else (ROOT / found[3]).read_bytes()
+    example = Example([], patch=patch, mode="1" if found[2] else "0")
+    check, a = example.checking().answer, example.case().answer
+    if 1 <= check.number <= 9:
+        return ["load %d %d" % (check.number, check.place)]
+    out = ["out"] + signed(a.outputs[:a.machine.written])
+    return ["check %d %d" % (check.number, check.place), "run %d %d %d" % (a.number, a.steps, a.place), " ".join(out), " ".join(["busy"] + busy(a.counts))]
+
+
+def answered(body):
+    """A block of commands, with what each prints below it."""
+    out, told = [], None
+    for line in body:
+        if line.startswith("$ "):
+            told = printed(line[2:])
+            out += [line] + (told or [])
+        elif told is None:
+            out.append(line)
+    return out
+
+
 # ---- the guide
 
 def words_in(cell):
@@ -221,7 +278,7 @@ def missing(found):
 
 
 def filled(text):
-    """The guide with its answers; its examples, and of each whether it is traced; and what the guide lacks."""
+    """A document with its answers; its examples, and of each whether it is traced; and what the guide would lack."""
     out, examples, lines, i = [], [], text.split("\n"), 0
     head, patch, found = None, None, set()
     while i < len(lines):
@@ -235,6 +292,8 @@ def filled(text):
             elif fence[1] == "trace":
                 body = traced(patch, fence[2].split())
                 examples.append((patch, True))
+            elif fence[1] == "console":
+                body = answered(body)
             out += [line] + body + ["```"]
             i = end + 1
             continue
@@ -265,24 +324,31 @@ def cases(examples):
             yield example.case(n)
 
 
+def stale(document, text, made):
+    """Whether a document is not what the model gives; says which lines are not."""
+    name = command.from_root(document)
+    for line in difflib.unified_diff(text.split("\n"), made.split("\n"), name, "what the model gives", n=0, lineterm=""):
+        print(line)
+    return text != made
+
+
 def main(args):
     if args not in ([], ["--check"], ["--list"]):
         sys.exit(__doc__)
-    text = GUIDE.read_text()
-    made, examples, lacks = filled(text)
+    texts = {document: document.read_text() for document in (GUIDE, README)}
+    made = {document: filled(text) for document, text in texts.items()}
+    _, examples, lacks = made[GUIDE]
     for lack in lacks:
         print("docs/GUIDE.md: " + lack, file=sys.stderr)
     if args == ["--list"]:
         sys.stdout.buffer.write(b"".join(lists.write(c) for c in cases(examples)))
         return 0
-    stale = [(n, a, b) for n, (a, b) in enumerate(zip(text.split("\n"), made.split("\n")), 1) if a != b]
     if args == ["--check"]:
-        for n, a, b in stale:
-            print("docs/GUIDE.md, line %d:\n  %s\nis to be\n  %s" % (n, a, b))
-        if not stale and text != made:
-            print("docs/GUIDE.md has lines too many or too few")
-        return 1 if text != made or lacks else 0
-    GUIDE.write_text(made)
+        bad = [stale(document, text, made[document][0]) for document, text in texts.items()]
+        return 1 if any(bad) or lacks else 0
+    for document, text in texts.items():
+        if made[document][0] != text:
+            document.write_text(made[document][0])
     print("%d examples" % len(examples))
     return 0
 

@@ -32,6 +32,8 @@ TELLING = 6
 # random runs with comments; and of the call mode, where the first two styles are pairs of one run in both modes
 ANNOTATED = {"annotated": 100}
 MODES = {"routines": 70, "every mark": 24, "by mark": 50, "no mode": 10}
+# of the counts
+COUNTS = {"near the most": 60, "miscounted": 60}
 # joinings and flattenings that are written
 SHAPES = 330
 WIDE = 900
@@ -48,6 +50,14 @@ def settled(judge, cases):
         if bytes_ not in seen:
             seen.add(bytes_)
             yield c, bytes_, told[2]
+
+
+def size(c, data):
+    """The bytes of a case beside its counts and totals, which do not decide whether it is short."""
+    if c.sort not in lists.RUNS:
+        return len(data)
+    held = sum(map(bool, c.counts)) + sum(map(bool, c.answer.counts))
+    return len(data) - 12 - 12 * held - 8 * (2 if c.sort in lists.FROM_STATE else 1)
 
 
 def style(c):
@@ -75,7 +85,7 @@ def replay_list(judge):
     # of the limits: every third of the short cases, some with full stacks, and what the rarer numbers need
     edges = [(c, data) for c, data, _ in settled(judge, generate.boundary())]
     for i, (c, data) in enumerate(edges):
-        if i % 3 == 0 and len(data) < LONG or i % 9 == 0 and len(data) < FULL:
+        if i % 3 == 0 and size(c, data) < LONG or i % 9 == 0 and size(c, data) < FULL:
             keep(c, data)
     # the longest files that are accepted
     for c, data in edges:
@@ -89,19 +99,19 @@ def replay_list(judge):
         keep(c, data)
     for c, data, _ in settled(judge, generate.randoms(2026, 16_000)):
         s = style(c)
-        if len(data) < (FULL if s == "boundary" else LONG) and styles.get(s, 0) < STYLES.get(s, 0):
+        if size(c, data) < (FULL if s == "boundary" else LONG) and styles.get(s, 0) < STYLES.get(s, 0):
             styles[s] = styles.get(s, 0) + 1
             keep(c, data)
-    pool = edges + [(c, data) for c, data, _ in settled(judge, generate.randoms(2028, 3000)) if len(data) < FULL]
+    randoms = [(c, data) for c, data, _ in settled(judge, generate.randoms(2028, 3000)) if size(c, data) < FULL]
 
-    def tell(readings):
-        """Each wrong reading of plant.py is found by some cases."""
+    def tell(readings, pool):
+        """Each wrong reading of plant.py is found by some cases, if need be of these."""
         for _, wrong in plant.planted(readings):
             found = sum(plant.finds(wrong, next(lists.read(data)), data) for data in kept)
             for c, data in pool:
                 if found >= TELLING:
                     break
-                if len(data) < FULL and data not in kept and plant.finds(wrong, next(lists.read(data)), data):
+                if size(c, data) < FULL and data not in kept and plant.finds(wrong, next(lists.read(data)), data):
                     keep(c, data)
                     found += 1
 
@@ -109,13 +119,14 @@ def replay_list(judge):
         """Of random cases so many of these styles."""
         left = dict(wanted)
         for c, data, _ in settled(judge, (c for c in generate.randoms(seed, count) if c.style in wanted)):
-            if len(data) < LONG and left[c.style]:
+            if size(c, data) < LONG and left[c.style]:
                 left[c.style] -= 1
                 keep(c, data)
         if any(left.values()):
             sys.exit("lists/make.py: too few of a style: %s" % left)
 
-    tell(plant.READINGS)
+    before = edges + [(c, data) for c, data in randoms if c.style not in COUNTS]
+    tell(plant.READINGS, before)
     for number in NUMBERS:
         for c, data in edges:
             if c.answer.number == number and numbers.get(number, 0) < OFTEN:
@@ -127,12 +138,17 @@ def replay_list(judge):
     for c, data, _ in settled(judge, generate.comments()):
         keep(c, data)
     sample(2029, 3000, ANNOTATED)
-    tell(plant.OF_COMMENTS)
+    tell(plant.OF_COMMENTS, before)
     # calls by mark, and random runs in both modes and in modes that there are not
     for c, data, _ in settled(judge, generate.calls()):
         keep(c, data)
     sample(2030, 3000, MODES)
-    tell(plant.OF_MODES)
+    tell(plant.OF_MODES, before)
+    # the counts and the step total, and random runs near the greatest total or with counts that are no state's
+    for c, data, _ in settled(judge, generate.tallies()):
+        keep(c, data)
+    sample(2031, 4500, COUNTS)
+    tell(plant.OF_COUNTS, randoms)
     for number in NUMBERS:
         if numbers.get(number, 0) < OFTEN:
             sys.exit("lists/make.py: number %d is met %d times" % (number, numbers.get(number, 0)))

@@ -20,6 +20,7 @@ extern "C" {
         channel: *mut u64, channel_len: usize,
         input: *const u64, input_len: usize,
         output: *mut u64, output_len: usize,
+        tally: *mut u64, tally_len: usize,
         budget: u32,
         mode: u32,
         answer: *mut u64, answer_len: usize,
@@ -69,15 +70,25 @@ struct Lent {
     table: Vec<u16>,
     channel: Vec<u64>,
     output: Vec<u64>,
+    tally: Vec<u64>,
     answer: [u64; 5],
 }
 
 impl Lent {
     fn new(c: &Case) -> Lent {
-        Lent { register: vec![0; 1024], tape: vec![0; c.cells], table: vec![0; 256], channel: vec![0; 256], output: vec![0; c.room], answer: [0; 5] }
+        let ops = plain::patch::ops(&c.patch).unwrap().0.len();
+        Lent {
+            register: vec![0; 1024],
+            tape: vec![0; c.cells],
+            table: vec![0; 256],
+            channel: vec![0; 256],
+            output: vec![0; c.room],
+            tally: vec![0; ops],
+            answer: [0; 5],
+        }
     }
     fn bytes(&self) -> usize {
-        8 * (self.register.len() + self.tape.len() + self.channel.len() + self.output.len()) + 2 * self.table.len()
+        8 * (self.register.len() + self.tape.len() + self.channel.len() + self.output.len() + self.tally.len()) + 2 * self.table.len()
     }
     fn run(&mut self, c: &Case) -> usize {
         self.steps(c, BUDGET)
@@ -92,6 +103,7 @@ impl Lent {
                 self.channel.as_mut_ptr(), self.channel.len(),
                 c.inputs.as_ptr(), c.inputs.len(),
                 self.output.as_mut_ptr(), self.output.len(),
+                self.tally.as_mut_ptr(), self.tally.len(),
                 budget,
                 c.mode,
                 self.answer.as_mut_ptr(), self.answer.len(),
@@ -109,7 +121,7 @@ fn same(a: u64, b: u64) -> bool {
     a == b || is_nan(a) && is_nan(b)
 }
 
-/// The steps of the patch, once both machines agree on them, on the outputs and on the state they leave. The Rust steps over comments too, and those
+/// The steps of the patch, once both machines agree on them, op by op, on the outputs and on the state they leave. The Rust steps over comments too, and those
 /// steps are not counted.
 fn agreed(c: &Case, lent: &mut Lent) -> u64 {
     let number = lent.run(c);
@@ -118,12 +130,16 @@ fn agreed(c: &Case, lent: &mut Lent) -> u64 {
     let device = probed::vm::TestingDevice::new_raw(c.inputs.iter().map(|v| *v as i64).collect());
     let mut vm = probed::vm::StandardInterpreter::new(device);
     let mut steps = 0;
+    let mut tally = vec![0; code.0.len()];
     while !*vm.parts().done && *vm.parts().i < code.0.len() {
-        let comment = matches!(code.0[*vm.parts().i], probed::vm::StandardOp::CoreOp(probed::vm::CoreOp::Comment(_)));
+        let at = *vm.parts().i;
+        let comment = matches!(code.0[at], probed::vm::StandardOp::CoreOp(probed::vm::CoreOp::Comment(_)));
         vm.one_step(&code).unwrap();
         steps += !comment as u64;
+        tally[at] += !comment as u64;
     }
     assert_eq!(lent.answer[2], steps, "{}: steps", c.name);
+    assert_eq!(lent.tally, tally, "{}: the counts of its ops", c.name);
     assert_eq!(lent.answer[4], 0, "{}: a lane of a finished run", c.name);
     let p = vm.parts();
     for (i, v) in p.register.iter().enumerate() {

@@ -1,7 +1,8 @@
 //! The judge: reads a list of cases (docs/REPLAY.md) on standard input, runs the Rust on each, and writes one line for each:
 //! sort, expected number, verdict, kind of the refused op (or -), how many NaNs were brought to the fixed bits, 1 where the Rust's
-//! panic names the lane that the answer gives, else 0, how many steps over comments were not counted, and how a run by mark was put to
-//! the Rust: 0 where it was not or the run is in the Rust's own mode, 1 as it is, 2 with its table taken away at a Call.
+//! panic names the lane that the answer gives, else 0, how many steps over comments were not counted, how a run by mark was put to
+//! the Rust: 0 where it was not or the run is in the Rust's own mode, 1 as it is, 2 with its table taken away at a Call, and 1 where the
+//! step total ended the run, else 0.
 //!
 //! Verdicts: `agree`, `differ` with what differs after it, and, where the expected answer is a refusal at a step, what the Rust
 //! does at that op after agreeing on every step before: `went` on, `err`, `panic`, `hang`, `big` (more room than the judge has).
@@ -23,6 +24,9 @@ use vm::{CoreOp, StandardInterpreter, StandardOp, StandardProgram, TestingDevice
 /// More cells than this are not asked of the Rust.
 const ROOM: usize = 8_000_000;
 
+/// The greatest step total (02, ask 11).
+const MOST: u64 = 1 << 53;
+
 struct Machine {
     position: usize,
     pointer: usize,
@@ -37,10 +41,12 @@ struct Machine {
     calls: Vec<usize>,
     refs: Vec<usize>,
     mode: usize,
+    total: u64,
 }
 
 fn machine(r: &mut Reader) -> Machine {
     let n: Vec<usize> = (0..13).map(|_| r.u32()).collect();
+    let total = r.u64();
     let calls = (0..n[10].min(256)).map(|_| r.u32()).collect();
     let refs = (0..n[11].min(256)).map(|_| r.u32()).collect();
     Machine {
@@ -57,6 +63,7 @@ fn machine(r: &mut Reader) -> Machine {
         calls,
         refs,
         mode: n[12],
+        total,
     }
 }
 
@@ -79,8 +86,8 @@ fn has_partner(kinds: &[u16], i: usize, at_else: bool) -> bool {
 
 type Vm = StandardInterpreter<TestingDevice>;
 
-/// Number, verdict, kind; then NaNs, whether the lane was named, comments, and how a run by mark was put.
-type Verdict = (usize, String, String, [usize; 4]);
+/// Number, verdict, kind; then NaNs, whether the lane was named, comments, how a run by mark was put, and whether the total ended the run.
+type Verdict = (usize, String, String, [usize; 5]);
 
 /// What is noted of the steps of a run.
 struct Seen {
@@ -205,6 +212,11 @@ fn is_named(number: usize, kind: u16, lane: usize, seen: &Seen, register: &[i64]
     }
 }
 
+/// The counts of a case, which have no sign.
+fn counts_of(values: Vec<i64>) -> Vec<u64> {
+    values.into_iter().map(|v| v as u64).collect()
+}
+
 /// A run; or one step, which is a run of budget 1 but that it gives 0 where it was made.
 fn run(r: &mut Reader, fresh: bool, one: bool, raw: bool) -> Verdict {
     let patch = r.counted();
@@ -215,13 +227,14 @@ fn run(r: &mut Reader, fresh: bool, one: bool, raw: bool) -> Verdict {
     let table = r.slice();
     let channel = r.slice();
     let outputs = r.slice();
+    let counts = counts_of(r.slice());
     // a fresh run is handed its call mode, a state has its own
-    let (start, mode) = if fresh {
-        (None, r.u32())
+    let (start, mode, total) = if fresh {
+        (None, r.u32(), 0)
     } else {
         let s = machine(r);
-        let mode = s.mode;
-        (Some(s), mode)
+        let (mode, total) = (s.mode, s.total);
+        (Some(s), mode, total)
     };
     let number = r.u32();
     let steps = r.u32();
@@ -233,24 +246,25 @@ fn run(r: &mut Reader, fresh: bool, one: bool, raw: bool) -> Verdict {
     let table2 = r.sparse(table.len());
     let channel2 = r.sparse(channel.len());
     let outputs2 = r.sparse(outputs.len());
-    assert!(!one || budget == 1 && steps < 2 && number != 50, "more than one step");
+    let counts2 = counts_of(r.sparse(counts.len()));
+    assert!(!one || budget == 1 && steps < 2 && (number != 50 || steps == 0), "more than one step");
     let mut seen = Seen { nans: 0, comments: 0, by_mark: mode, index: None };
     let no_kind = "-".to_string();
     if (1..10).contains(&number) || number == 37 {
-        return (number, "port".into(), no_kind, [0; 4]);
+        return (number, "port".into(), no_kind, [0; 5]);
     }
     let Some((code, kinds)) = ops(patch) else {
-        return (number, "utf8".into(), no_kind, [0; 4]);
+        return (number, "utf8".into(), no_kind, [0; 5]);
     };
     let code = StandardProgram(code);
     let mut vm = StandardInterpreter::new(TestingDevice::new_raw(inputs.clone()));
     let mut written = 0;
     if let Some(s) = start {
         if tape.iter().skip(s.counted).any(|c| *c != 0) {
-            return (number, "dirty".into(), no_kind, [0; 4]);
+            return (number, "dirty".into(), no_kind, [0; 5]);
         }
         if s.counted > ROOM {
-            return (number, "big".into(), no_kind, [0; 4]);
+            return (number, "big".into(), no_kind, [0; 5]);
         }
         written = s.written;
         let p = vm.parts();
@@ -272,26 +286,49 @@ fn run(r: &mut Reader, fresh: bool, one: bool, raw: bool) -> Verdict {
         let p = vm.parts();
         *p.done || *p.i >= kinds.len()
     };
-    let differ = |what: String| (number, format!("differ:{what}"), "-".to_string(), [0; 4]);
+    let differ = |what: String| (number, format!("differ:{what}"), "-".to_string(), [0; 5]);
     if mode > 1 || m.mode != mode {
         return differ(format!("mode:{mode}"));
     }
+    // 02, ask 11: what is not 37. The sum is exact; what is a comment is told by the Rust's own op
+    let is_comment = |i: usize| matches!(code.0[i], StandardOp::CoreOp(CoreOp::Comment(_)));
+    if counts.len() != kinds.len() {
+        return differ("counts-not-one-an-op".into());
+    }
+    if !fresh && (total > MOST || counts.iter().map(|n| *n as u128).sum::<u128>() != total as u128) {
+        return differ("counts-do-not-add-up".into());
+    }
+    if !fresh && counts.iter().enumerate().any(|(i, n)| *n != 0 && is_comment(i)) {
+        return differ("a-comment-is-counted".into());
+    }
+    // the steps that the Rust makes at each place are added to these, from fresh to none
+    let mut tally = if fresh { vec![0; kinds.len()] } else { counts };
     let mut made = 0;
     while !over(&mut vm) {
         // 02, ask 8: the Rust's step over a comment is not counted, and is made before each test
-        let comment = !raw && matches!(code.0[*vm.parts().i], StandardOp::CoreOp(CoreOp::Comment(_)));
+        let at = *vm.parts().i;
+        let comment = !raw && is_comment(at);
         if made == steps && !comment {
             break;
         }
         match step(&mut vm, &code, &kinds, raw, &mut seen) {
             "went" if comment => seen.comments += 1,
-            "went" => made += 1,
-            "big" => return (number, "big".into(), no_kind, [seen.nans, 0, seen.comments, 0]),
+            "went" => {
+                made += 1;
+                tally[at] += 1;
+            }
+            "big" => return (number, "big".into(), no_kind, [seen.nans, 0, seen.comments, 0, 0]),
             other => return differ(format!("{other}-at-step-{made}")),
         }
     }
     if made != steps {
         return differ(format!("over-after-{made}-steps"));
+    }
+    if tally != counts2 {
+        return differ(format!("counts:{:?}", &tally[..tally.len().min(16)]).replace(' ', ""));
+    }
+    if m.total != total + made as u64 {
+        return differ(format!("total:{}", total + made as u64));
     }
     {
         let p = vm.parts();
@@ -339,15 +376,17 @@ fn run(r: &mut Reader, fresh: bool, one: bool, raw: bool) -> Verdict {
         }
     }
     let ended = over(&mut vm);
-    // an op that is refused is within the budget too
-    if steps > budget || steps == budget && number != 0 && number != 50 {
+    // an op that is refused is within the budget and the total too; all are made that these allow
+    let spent = steps == budget || m.total == MOST;
+    if steps > budget || m.total > MOST || spent && number != 0 && number != 50 {
         return differ("budget".into());
     }
-    let agree = (number, "agree".to_string(), no_kind, [seen.nans, 0, seen.comments, seen.by_mark]);
+    let by_total = (number == 50 && steps < budget) as usize;
+    let agree = (number, "agree".to_string(), no_kind, [seen.nans, 0, seen.comments, seen.by_mark, by_total]);
     match number {
         0 if ended || one && steps == 1 => agree,
         0 => differ("not-over".into()),
-        50 if !ended && steps == budget => agree,
+        50 if !ended && spent => agree,
         50 => differ("over".into()),
         _ if ended => differ("over".into()),
         _ => {
@@ -364,7 +403,7 @@ fn run(r: &mut Reader, fresh: bool, one: bool, raw: bool) -> Verdict {
             }
             // what is beyond the judge's room was not put
             let by_mark = if what == "big" { 0 } else { seen.by_mark };
-            (number, what.into(), kind.to_string(), [seen.nans, named as usize, seen.comments, by_mark])
+            (number, what.into(), kind.to_string(), [seen.nans, named as usize, seen.comments, by_mark, 0])
         }
     }
 }
@@ -396,7 +435,7 @@ fn join(r: &mut Reader) -> Verdict {
     } else {
         "utf8".into()
     };
-    (number, verdict, "-".into(), [0; 4])
+    (number, verdict, "-".into(), [0; 5])
 }
 
 fn flatten(r: &mut Reader) -> Verdict {
@@ -429,7 +468,7 @@ fn flatten(r: &mut Reader) -> Verdict {
                     let body = &functions[&n];
                     found.push([n as usize, first, body.len()]);
                     if flat.0[first..first + body.len()] != body[..] && !has_nan(body) {
-                        return (number, "differ:body".into(), kind, [0; 4]);
+                        return (number, "differ:body".into(), kind, [0; 5]);
                     }
                     first += body.len();
                 }
@@ -447,7 +486,7 @@ fn flatten(r: &mut Reader) -> Verdict {
     } else {
         "utf8".into()
     };
-    (number, verdict, kind, [0; 4])
+    (number, verdict, kind, [0; 5])
 }
 
 /// An op that holds a NaN is not equal to itself.
@@ -465,7 +504,7 @@ fn judge() {
         let case = list.counted();
         let mut r = Reader { bytes: case, at: 0 };
         let sort = r.u8();
-        let (number, verdict, kind, [nans, named, comments, by_mark]) = match sort {
+        let (number, verdict, kind, [nans, named, comments, by_mark, by_total]) = match sort {
             0 => run(&mut r, false, false, raw),
             1 => run(&mut r, true, false, raw),
             2 => join(&mut r),
@@ -474,13 +513,13 @@ fn judge() {
                 r.counted();
                 let number = r.u32();
                 r.u32();
-                (number, "port".into(), "-".into(), [0; 4])
+                (number, "port".into(), "-".into(), [0; 5])
             }
             5 => run(&mut r, false, true, raw),
             s => panic!("no sort {s}"),
         };
         assert!(verdict.starts_with("differ") || r.at == case.len(), "a case of sort {sort} has bytes left over");
-        writeln!(out, "{sort} {number} {verdict} {kind} {nans} {named} {comments} {by_mark}").unwrap();
+        writeln!(out, "{sort} {number} {verdict} {kind} {nans} {named} {comments} {by_mark} {by_total}").unwrap();
     }
 }
 

@@ -4,9 +4,11 @@
     make.py             writes crates/test_cases/stdin and crates/test_cases/stdout
     make.py --check     says which of them is not what the text gives, and writes nothing
 
-A case of the text: its name on a line of its own, then lines 'do:' (join or flatten, where it is no run), 'ops:' (separated by ';', as
-patches/make.py takes them), 'input:', 'cells:', 'room:', 'register:', 'budget:' and 'mode:' (the call mode) where they are not the usual ones, and 'gives:', the
-answer, written by hand from documents 01 and 02. An empty line ends a case; '#' starts a remark. Ops in braces in an answer stand for their bytes in hex.
+A case of the text: its name on a line of its own, then lines 'do:' (join or flatten, where it is no run; counts, where it is one and its step
+total and counts are told too), 'ops:' (separated by ';', as patches/make.py takes them), 'input:', 'cells:', 'room:', 'register:', 'budget:',
+'mode:' (the call mode) and 'counts:' (how many are lent; if nothing is said, as many as there are ops) where they are not the usual ones, and
+'gives:', the answer, written by hand from documents 01 and 02. An empty line ends a case; '#' starts a remark. Ops in braces in an answer stand for
+their bytes in hex.
 """
 import pathlib
 import re
@@ -19,12 +21,17 @@ sys.path[:0] = [str(ROOT / "tools"), str(ROOT / "patches")]
 import command  # noqa: E402
 from make import assemble_op  # noqa: E402
 
-SORTS = {"run": 0, "join": 1, "flatten": 2}
-USUAL = {"do": "run", "ops": "", "input": "", "cells": "4096", "room": "64", "register": "1024", "budget": "100000", "mode": "0", "gives": ""}
+SORTS = {"run": 0, "join": 1, "flatten": 2, "counts": 3}
+USUAL = {"do": "run", "ops": "", "input": "", "cells": "4096", "room": "64", "register": "1024", "budget": "100000", "mode": "0", "counts": "",
+         "gives": ""}
+
+
+def records(text):
+    return [assemble_op(op.strip()) for op in text.split(";") if op.strip()]
 
 
 def patch(text):
-    return b"".join(assemble_op(op.strip()) for op in text.split(";") if op.strip())
+    return b"".join(records(text))
 
 
 def read(text):
@@ -46,7 +53,8 @@ def frame(name, said):
     file = patch(said["ops"])
     values = [int(v) % 2**64 for v in said["input"].split()]
     sizes = [int(said[key]) for key in ("cells", "room", "register")]
-    head = struct.pack("<BB5HI", SORTS[said["do"]] + 16 * int(said["mode"]), len(name), len(file), len(values), *sizes, int(said["budget"]))
+    counts = int(said["counts"] or len(records(said["ops"])))
+    head = struct.pack("<BB5HIH", SORTS[said["do"]] + 16 * int(said["mode"]), len(name), len(file), len(values), *sizes, int(said["budget"]), counts)
     return head + name.encode() + file + struct.pack("<%dQ" % len(values), *values)
 
 

@@ -1,4 +1,4 @@
--- A run as the code makes it is the model's run, laid after each step; and what is seen of it is the model's answer. Assumes nothing.
+-- A run as the code makes it is the model's run, laid after each step; what is seen of it is the model's answer, and the counts are the model's. Assumes nothing.
 use mathlib.Core.Path.{_≡_, _∙_, refl, ap, sym, subst}
 use mathlib.Core.Bool.{Bool, true, false, cond, _||_}
 use mathlib.Core.List.{List}
@@ -19,12 +19,14 @@ use Rattle.machine_model.specs.Formed.{Formed}
 use Rattle.machine_model.proofs.Passing.{passed-within}
 use Rattle.machine_model.proofs.Effects.{step-over}
 use Rattle.machine_model.proofs.Kept.{step-formed, fresh-formed}
+use Rattle.busy.specs.Sums.{raised}
+use Rattle.busy.specs.Tally.{driveCounts, runCounts}
 use Rattle.machine_step.specs.Held.{Held}
 use Rattle.machine_step.specs.Step.{stepOf}
 use Rattle.bridge.specs.View.{view, lay, laid}
 use Rattle.bridge.specs.Decoded.{codeOf, patchIn, givenTo}
 use Rattle.bridge.specs.Fits.{Fits}
-use Rattle.bridge.specs.Run.{ran, standing, passedIn, driveLaid, runLaid, seen, isOver, pastOf, pastIn, driveOf, runOf}
+use Rattle.bridge.specs.Run.{ran, standing, passedIn, driveLaid, runLaid, seen, isOver, pastOf, pastIn, driveOf, runOf, driveCountsOf, runCountsOf}
 use Rattle.bridge.proofs.Over.{view-lay, lay-counted, lay-room}
 use Rattle.bridge.proofs.Decoded.{Bytes, rows, comments-are, limited}
 use Rattle.bridge.proofs.Real.{Real, step-real}
@@ -175,6 +177,37 @@ module _ (s input : List ℕ) where
           (λ e. code-over (suc n) k c e ∙ sym (in-over (suc n) k c _ (ended c e)))
           (λ e. turns n k c e (λ t q. passes n (suc k) (lay t c) (drives n (suc k) (passedIn g (lay t c)) (sound-passed (lay t c) (sound-next c t h q)))) _ (real c e) refl (stepped c h e))
 
+      -- ---- the counts
+
+      -- one step more, where the rest is counted alike
+      counts-on : (n : ℕ) (c : Held) (cs : List ℕ) → over c ≡ false
+          → ((t : State) → step g (view c) ≡ next t
+          → driveCountsOf n (codeOf s) input (pastIn (codeOf s) (lay t c)) (raised cs (c .numbers .position)) ≡ driveCounts g n (passed g t) (step g (passed g t)) (raised cs (c .numbers .position)))
+          → (o : Outcome) → Real o → step g (view c) ≡ o → stepOf (codeOf s) input c ≡ laid c o
+          → driveCountsOf (suc n) (codeOf s) input c cs ≡ driveCounts g (suc n) (view c) o cs
+      unfolding driveCountsOf pick driveCounts over
+      counts-on n c cs e less _ (goes t) q r = rw (e, r) (less t q)
+      counts-on n c cs e less _ (stops m l z) q r = rw (e, r, z) refl
+
+      counts-over : (n : ℕ) (c : Held) (cs : List ℕ) (o : Outcome) → over c ≡ true → o ≡ finished → driveCountsOf n (codeOf s) input c cs ≡ driveCounts g n (view c) o cs
+      unfolding driveCountsOf pick driveCounts over
+      counts-over zero c cs o e f = refl
+      counts-over (suc n) c cs o e f = rw (e, f) refl
+
+      -- the code's counts are the model's
+      counts : (n : ℕ) (c : Held) (cs : List ℕ) → Sound c → driveCountsOf n (codeOf s) input c cs ≡ driveCounts g n (view c) (step g (view c)) cs
+      unfolding driveCountsOf driveCounts
+      counts zero c cs h = refl
+      counts (suc n) c cs h =
+          byCase (over c)
+          (λ e. counts-over (suc n) c cs _ e (ended c e))
+          (λ e. counts-on n c cs e
+          (λ t q. let cs′ = raised cs (c .numbers .position) in
+          ap (λ (d : Held). driveCountsOf n (codeOf s) input d cs′) (past-is s mode input room (lay t c))
+          ∙ counts n (passedIn g (lay t c)) cs′ (sound-passed (lay t c) (sound-next c t h q))
+          ∙ ap (λ (u : State). driveCounts g n u (step g u) cs′) (seen-next c t h q))
+          _ (real c e) refl (stepped c h e))
+
       shows : (n k : ℕ) (c : Held) (o : Outcome) → Sound c → step g (view c) ≡ o → seen (driveLaid g n k c o) ≡ drive g n k (view c) o
       unfolding driveLaid drive
       shows zero k c finished h q = refl
@@ -207,6 +240,15 @@ module _ (s input : List ℕ) where
       run-seen =
           let g = givenTo s input c in
           shows mode room n 0 (passedIn g c) _ (sound-passed mode room c sound) refl ∙ ap (λ (u : State). drive g n 0 u (step g u)) (seen-passed g c)
+
+      -- the counts that the code leaves are those of the model's run
+      pub run-counts : (cs : List ℕ) → runCountsOf n (codeOf s) input c cs ≡ runCounts (givenTo s input c) n (view c) cs
+      unfolding runCountsOf runCounts
+      run-counts cs =
+          let g = givenTo s input c in
+          ap (λ (d : Held). driveCountsOf n (codeOf s) input d cs) (past-is s mode input room c)
+          ∙ counts mode room n (passedIn g c) cs (sound-passed mode room c sound)
+          ∙ ap (λ (u : State). driveCounts g n u (step g u) cs) (seen-passed g c)
 
   -- ---- the fresh run
 

@@ -15,6 +15,7 @@ use Rattle.machine_model.specs.Step.{Outcome, step}
 use Rattle.machine_model.specs.Step.Outcome.{finished, refused, next}
 use Rattle.machine_model.specs.Passed.{past, passed}
 use Rattle.machine_model.specs.Run as model
+use Rattle.busy.specs.Sums.{raised}
 use Rattle.machine_numbers.specs.Numbers.{atPosition}
 use Rattle.machine_step.specs.Held.{Held, held, Code}
 use Rattle.machine_step.specs.Step.{stepOf}
@@ -87,3 +88,16 @@ driveOf (suc b) k x input c =
 unfoldable pub runOf : ℕ → ℕ → Code → List ℕ → Held → Ran
 unfolding driveOf pastIn
 runOf b k x input c = driveOf b k x input (pastIn x c)
+
+-- the counts as the code raises them, one step after the other, as `driveOf` makes them
+unfoldable pub driveCountsOf : ℕ → Code → List ℕ → Held → List ℕ → List ℕ
+unfolding pick pastIn
+driveCountsOf zero x input c cs = cs
+driveCountsOf (suc b) x input c cs =
+    let o = stepOf x input c in
+    let rest = driveCountsOf b x input (pastIn x (o .held)) (raised cs (c .numbers .position)) in
+    pick (isOver x c) cs (pick (eqb (o .number) 0) rest cs)
+
+unfoldable pub runCountsOf : ℕ → Code → List ℕ → Held → List ℕ → List ℕ
+unfolding driveCountsOf pastIn
+runCountsOf b x input c cs = driveCountsOf b x input (pastIn x c) cs

@@ -6,7 +6,7 @@ use mathlib.Core.List.{List, map}
 use Prim.Native.Nat.{ℕ}
 use lib.Dec.{eqb}
 use lib.ListN.{length, length-replicate}
-use borrow.Author.Tests.{eqb-true, eqb-false}
+use borrow.Author.Tests.{eq-eqb, eqb-true, eqb-false}
 use Rattle.basics.proofs.Clash.{clash}
 use Rattle.basics.proofs.Tests.{byCase, and-left}
 use Rattle.ops.specs.Syntax.{Op}
@@ -24,17 +24,19 @@ use Rattle.answers.specs.Check as checked
 use Rattle.answers.specs.declared.check.Verdict.{Verdict}
 use Rattle.demands.proofs.File.{check-passes}
 use Rattle.demands.proofs.Safe.{Neither20Nor21, safe-resumed}
-use Rattle.machine_step.specs.Held.{Slices, Held}
+use Rattle.busy.specs.Sums.{allowed}
+use Rattle.machine_step.specs.Held.{Held}
 use Rattle.bridge.specs.View.{view}
 use Rattle.bridge.specs.Decoded.{codeOf, patchIn, givenTo}
 use Rattle.bridge.specs.Fits.{Fits}
-use Rattle.bridge.specs.Run.{Ran, runLaid}
+use Rattle.bridge.specs.Run.{runLaid}
 use Rattle.bridge.proofs.Decoded.{Bytes}
 use Rattle.bridge.proofs.Runs.{run-seen}
 use Rattle.answers.specs.Run.{numberOf}
+use Rattle.answers.specs.declared.run.Answer as answers
 use Rattle.machine.specs.Fresh.{freshOf}
-use Rattle.states.specs.Formed.{isMode, canStart, isFormed}
-use Rattle.machine.specs.Calls.{Shown, lent, stepCall, steppedTo, runCall, ranTo, freshOn, freshCall}
+use Rattle.states.specs.Formed.{isMode, canStart}
+use Rattle.machine.specs.Calls.{Slices, Tallied, Shown, Ended, lent, isState, canBegin, stepCall, steppedTo, runCall, ranTo, freshOn, freshCall}
 use Rattle.machine.specs.declared.machine.Stepped.{Stepped}
 use Rattle.machine.specs.declared.machine.Ran as code
 use Rattle.states.proofs.WellFormed.{formed-starts, formed-fits}
@@ -42,7 +44,7 @@ use Rattle.demands.proofs.Started.{fresh-view, fresh-fits}
 use Rattle.machine.proofs.StepIsARun.{once-is}
 use Rattle.demands.specs.ReachedBy.{ReachedBy}
 use Rattle.demands.specs.ReachedBy.ReachedBy.{after-fresh, after-run, after-step, lent-anew}
-use Rattle.demands.proofs.Kept.{run-fits, once-held, once-number}
+use Rattle.demands.proofs.Kept.{run-fits, once-left, once-number}
 
 -- ---- a file that the check passes
 
@@ -67,14 +69,14 @@ other : (n : ℕ) → eqb n 20 ≡ false → eqb n 21 ≡ false → Neither20Nor
 other n e f = (eqb-false n 20 e, eqb-false n 21 f)
 
 -- a step leaves what a run of at most one step does, and has its number, or 0
-module _ (s input : List ℕ) (c : Held) where
-  step-held : stepCall s input c .held ≡ runCall s input 1 c .held
-  step-held = ap (λ (a : Shown). a .held) (sym (once-is s input c)) ∙ once-held (runCall s input 1 c)
+module _ (s input : List ℕ) (w : Tallied) where
+  step-left : stepCall s input w .left ≡ runCall s input 1 w .left
+  step-left = ap (λ (a : Shown). a .left) (sym (once-is s input w)) ∙ once-left (runCall s input 1 w)
 
-  step-number : Neither20Nor21 (numberOf (runCall s input 1 c .answer)) → Neither20Nor21 (numberOf (stepCall s input c .answer))
+  step-number : Neither20Nor21 (numberOf (runCall s input 1 w .answer)) → Neither20Nor21 (numberOf (stepCall s input w .answer))
   step-number h =
-      subst (λ (a : Shown). Neither20Nor21 (numberOf (a .answer))) (once-is s input c)
-      (once-number (λ n. Neither20Nor21 n) (runCall s input 1 c) (other 0 refl refl) h)
+      subst (λ (a : Shown). Neither20Nor21 (numberOf (a .answer))) (once-is s input w)
+      (once-number (λ n. Neither20Nor21 n) (runCall s input 1 w) (other 0 refl refl) h)
 
 module _ (s : List ℕ) (y : Bytes s) (p : Passed s) where
   -- the stacks are whole; where its mode is known and there is room, what is seen is a state that the model's runs of the patch come to
@@ -84,14 +86,14 @@ module _ (s : List ℕ) (y : Bytes s) (p : Passed s) where
     state : canStart (c .numbers .mode) (c .register) (c .table) (c .channel) ≡ true → Reached (patchIn s) (view c)
 
   -- of a run's answer
-  record Sound (r : Ran) : Type 0 where
-    number : Neither20Nor21 (numberOf (r .answer))
-    known : Known (r .held)
+  record Sound (a : answers.Answer) (c : Held) : Type 0 where
+    number : Neither20Nor21 (numberOf a)
+    known : Known c
 
-  module _ (input : List ℕ) (b : ℕ) where
+  module _ (input : List ℕ) where
     -- the steps of a run, which are the model's
-    runs : (c : Held) → Fits s input c → Reached (patchIn s) (view c) → Sound (runLaid (givenTo s input c) b c)
-    runs c h r =
+    runs : (b : ℕ) (c : Held) → Fits s input c → Reached (patchIn s) (view c) → let r = runLaid (givenTo s input c) b c in Sound (r .answer) (r .held)
+    runs b c h r =
         let e = run-seen s input y b c h in
         let k = run-fits s input y b c h .counted in
         record {
@@ -104,32 +106,43 @@ module _ (s : List ℕ) (y : Bytes s) (p : Passed s) where
         }
 
     -- the fresh run, and a run: their steps, or 37
-    fresh-sound : (mode : ℕ) (l : Slices) → Sound (freshCall s input b mode l)
+    fresh-sound : (b mode : ℕ) (l : Slices) → canBegin s mode l ≡ true → let a = freshCall s input b mode l in Sound (a .answer) (a .left .held)
     unfolding freshCall freshOf
-    fresh-sound mode l =
-        byCase (canStart mode (l .register) (l .table) (l .channel))
-        (λ e. rw (p .good, e)
-        (runs (freshOn mode l) (fresh-fits mode l e s input y) (subst (λ (q : State). Reached (patchIn s) q) (sym (fresh-view mode l e)) (at-first (length (l .tape))))))
-        (λ e. rw (p .good, e)
-        (record {
-          number = other 37 refl refl;
-          known = record { call-room = length-replicate {A = ℕ} 256 0; ref-room = length-replicate {A = ℕ} 256 0; state = λ f. clash (cc) };
-        }))
+    fresh-sound b mode l e =
+        let f = and-left _ _ e in
+        rw (p .good, e)
+        (runs (allowed b 0) (freshOn mode l .held) (fresh-fits mode l f s input y) (subst (λ (q : State). Reached (patchIn s) q) (sym (fresh-view mode l f)) (at-first (length (l .tape)))))
 
-    run-sound : (c : Held) → Known c → Sound (runCall s input b c)
+    fresh-number : (b mode : ℕ) (l : Slices) → Neither20Nor21 (numberOf (freshCall s input b mode l .answer))
+    unfolding freshCall
+    fresh-number b mode l = byCase (canBegin s mode l) (λ e. fresh-sound b mode l e .number) (λ e. rw (p .good, e) (other 37 refl refl))
+
+    -- refused, there is no room or the mode is unknown, where there is a count for each op
+    fresh-known : (b mode : ℕ) (l : Slices) → length (l .tally) ≡ length (codeOf s .rows) → Known (freshCall s input b mode l .left .held)
+    unfolding freshCall freshOf
+    fresh-known b mode l even =
+        let q = eq-eqb (length (l .tally)) (length (codeOf s .rows)) even in
+        byCase (canStart mode (l .register) (l .table) (l .channel))
+        (λ f. fresh-sound b mode l (rw (f, q) refl) .known)
+        (λ f. rw (p .good, f)
+        (record { call-room = length-replicate {A = ℕ} 256 0; ref-room = length-replicate {A = ℕ} 256 0; state = λ g. clash (cc) }))
+
+    run-sound : (b : ℕ) (w : Tallied) → Known (w .held) → let a = runCall s input b w in Sound (a .answer) (a .left .held)
     unfolding runCall
-    run-sound c k =
-        byCase (isFormed (codeOf s .rows) (length input) c)
-        (λ e. rw (p .good, e) (runs c (formed-fits s input c (k .call-room) (k .ref-room) e) (k .state (formed-starts (codeOf s .rows) (length input) c e))))
+    run-sound b w k =
+        let c = w .held in
+        byCase (isState s input w)
+        (λ e. let f = and-left _ _ e in rw (p .good, e)
+        (runs (allowed b (w .total)) c (formed-fits s input c (k .call-room) (k .ref-room) f) (k .state (formed-starts (codeOf s .rows) (length input) c f))))
         (λ e. rw (p .good, e) (record { number = other 37 refl refl; known = k }))
 
   -- what calls leave
-  reached : (c : Held) → ReachedBy s c → Known c
+  reached : (w : Tallied) → ReachedBy s w → Known (w .held)
   unfolding canStart
-  reached c (after-fresh input b mode l) = fresh-sound input b mode l .known
-  reached c (after-run d input b r) = run-sound input b d (reached d r) .known
-  reached c (after-step d input r) = subst (λ (h : Held). Known h) (sym (step-held s input d)) (run-sound input 1 d (reached d r) .known)
-  reached c (lent-anew m l n r e q) =
+  reached w (after-fresh input b mode l even) = fresh-known input b mode l even
+  reached w (after-run v input b r) = run-sound input b v (reached v r) .known
+  reached w (after-step v input r) = subst (λ (u : Tallied). Known (u .held)) (sym (step-left s input v)) (run-sound input 1 v (reached v r) .known)
+  reached w (lent-anew m l n r e q) =
       let k = reached (lent m l) r in
       record { call-room = k .call-room; ref-room = k .ref-room; state = λ f. subst (λ (u : State). Reached (patchIn s) u) (sym q) (k .state (rw (and-left (isMode (m .numbers .mode)) _ f) e)) }
 
@@ -140,18 +153,18 @@ module _ (s : List ℕ) (y : Bytes s) (p : Passed s) where
 pub demand3 : (s : List ℕ) → Bytes s → (v : Verdict) → v ≡ checkOf s → checked.numberOf v ≡ 0
     → (input : List ℕ) (budget mode : ℕ) (l : Slices) (r : code.Ran) (n : Slices) → ranTo r n ≡ freshCall s input budget mode l → Neither20Nor21 (numberOf (r .answer))
 demand3 s y v e z input b mode l r n q =
-    subst (λ (a : Ran). Neither20Nor21 (numberOf (a .answer))) (sym q) (fresh-sound s y (passed s (check-passes s v e .0 z)) input b mode l .number)
+    subst (λ (a : Ended). Neither20Nor21 (numberOf (a .answer))) (sym q) (fresh-number s y (passed s (check-passes s v e .0 z)) input b mode l)
 
 -- nor is that of a run that takes up what calls on the file left: r meets the contract of `run`
 pub demand3-resumed : (s : List ℕ) → Bytes s → (v : Verdict) → v ≡ checkOf s → checked.numberOf v ≡ 0
-    → (c : Held) → ReachedBy s c → (input : List ℕ) (budget : ℕ) (r : code.Ran) (n : Slices) → ranTo r n ≡ runCall s input budget c → Neither20Nor21 (numberOf (r .answer))
-demand3-resumed s y v e z c h input b r n q =
+    → (w : Tallied) → ReachedBy s w → (input : List ℕ) (budget : ℕ) (r : code.Ran) (n : Slices) → ranTo r n ≡ runCall s input budget w → Neither20Nor21 (numberOf (r .answer))
+demand3-resumed s y v e z w h input b r n q =
     let p = passed s (check-passes s v e .0 z) in
-    subst (λ (a : Ran). Neither20Nor21 (numberOf (a .answer))) (sym q) (run-sound s y p input b c (reached s y p c h) .number)
+    subst (λ (a : Ended). Neither20Nor21 (numberOf (a .answer))) (sym q) (run-sound s y p input b w (reached s y p w h) .number)
 
 -- nor is that of a step: r meets the contract of `step`
 pub demand3-step : (s : List ℕ) → Bytes s → (v : Verdict) → v ≡ checkOf s → checked.numberOf v ≡ 0
-    → (c : Held) → ReachedBy s c → (input : List ℕ) (r : Stepped) (n : Slices) → steppedTo r n ≡ stepCall s input c → Neither20Nor21 (numberOf (r .answer))
-demand3-step s y v e z c h input r n q =
+    → (w : Tallied) → ReachedBy s w → (input : List ℕ) (r : Stepped) (n : Slices) → steppedTo r n ≡ stepCall s input w → Neither20Nor21 (numberOf (r .answer))
+demand3-step s y v e z w h input r n q =
     let p = passed s (check-passes s v e .0 z) in
-    subst (λ (a : Shown). Neither20Nor21 (numberOf (a .answer))) (sym q) (step-number s input c (run-sound s y p input 1 c (reached s y p c h) .number))
+    subst (λ (a : Shown). Neither20Nor21 (numberOf (a .answer))) (sym q) (step-number s input w (run-sound s y p input 1 w (reached s y p w h) .number))

@@ -14,9 +14,10 @@ use Rattle.machine_step.specs.Held.{Held}
 use Rattle.bridge.specs.View.{view, lay}
 use Rattle.bridge.specs.Decoded.{givenTo}
 use Rattle.bridge.specs.Fits.{Fits}
-use Rattle.bridge.specs.Run.{Ran, passedIn, driveLaid, runLaid}
+use Rattle.bridge.specs.Run.{passedIn, driveLaid, runLaid}
 use Rattle.bridge.proofs.Decoded.{Bytes, limited}
 use Rattle.bridge.proofs.Runs.{lay-given, lay-fits, passed-fits}
+use Rattle.machine.specs.Calls.{Ended}
 use Rattle.machine.proofs.StepIsARun.{onceOf}
 
 -- ---- a run
@@ -58,11 +59,11 @@ run-fits s input y n c h =
 -- ---- a step
 
 -- it leaves what the run of at most one step does
-pub once-held : (a : Ran) → onceOf a .held ≡ a .held
+pub once-left : (a : Ended) → onceOf a .left ≡ a .left
 unfolding onceOf
-once-held a = byCase (eqb (a .steps) 0) (λ e. rw e refl) (λ e. rw e refl)
+once-left a = byCase (eqb (a .steps) 0) (λ e. rw e refl) (λ e. rw e refl)
 
 -- and what holds of 0 and of that run's number holds of the step's
-pub once-number : (P : ℕ → Type 0) (a : Ran) → P 0 → P (numberOf (a .answer)) → P (numberOf (onceOf a .answer))
+pub once-number : (P : ℕ → Type 0) (a : Ended) → P 0 → P (numberOf (a .answer)) → P (numberOf (onceOf a .answer))
 unfolding onceOf
 once-number P a z h = byCase (eqb (a .steps) 0) (λ e. rw e h) (λ e. rw e z)

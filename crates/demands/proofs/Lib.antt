@@ -1,5 +1,5 @@
 -- What the exported operations promise together: the check's answer and demand 3 on the model, the calls, demand 3 on the code, the lengths that
--- calls hand back, and the customer's cases.
+-- calls hand back, the counts of runs, and the customer's cases.
 pub mod Scanned
 pub mod Partner
 pub mod Checked
@@ -16,3 +16,4 @@ pub mod Lengths
 pub mod CallModes
 pub mod Missing
 pub mod Annotated
+pub mod Busy

@@ -1,14 +1,14 @@
 -- The thirteen cases of 01-scope.md ('Proved by one table') and what its list lacks: runs that meet each bracket, function, growth and refusal, and
--- a ring that wraps. Computed from the definitions of run, check, joining, flattening and channel, and compared as one list. Assumes nothing.
+-- a ring that wraps; and the counts of ops. Computed from the definitions of run, check, joining, flattening and channel, and compared as one list. Assumes nothing.
 use Prim.Native.Nat.{ℕ, zero, suc, _^_}
 use mathlib.Core.Path.{_≡_, refl}
 use mathlib.Core.List.{List, [], _∷_, _++_, map}
 use lib.ListN.{length, replicate}
 use Rattle.lanes.specs.declared.lane.CellOp.the-variants.{Div, Rem, LeftShift, Add}
-use Rattle.lanes.specs.declared.lane.LaneOp.the-variants.{ToFloat, ToInt}
+use Rattle.lanes.specs.declared.lane.LaneOp.the-variants.{Dec, ToFloat, ToInt}
 use Rattle.ops.specs.declared.op.Mode.the-variants.{Char, Int}
 use Rattle.ops.specs.Syntax.{Op, Plain, kindOf, argOf, valuesOf}
-use Rattle.ops.specs.Syntax.Control.{function, call, ret, if, end}
+use Rattle.ops.specs.Syntax.Control.{function, call, ret, while, if, end}
 use Rattle.ops.specs.Syntax.Plain.{comment, move, deref, refer, store, put, get, alloc, cell, lane}
 use Rattle.ops.specs.Syntax.Op.{control, load, plain}
 use Rattle.testing_device.specs.Channel.{peekOf, pokeIn}
@@ -16,6 +16,10 @@ use Rattle.testing_device.specs.declared.device.Peeked.{Peeked}
 use Rattle.testing_device.specs.declared.device.Peeked.the-variants as peeked
 use Rattle.machine_model.specs.State.{given, rustTable, byMark, fresh, lane0}
 use Rattle.machine_model.specs.Run.{Answer, run}
+use Rattle.busy.specs.Sums.{raised}
+use Rattle.busy.specs.Tally.{driveCounts, runCounts}
+use Rattle.busy.specs.Busiest.{busier, firstOf, otherOf, insert, withOp, ranked, busiestOf}
+use Rattle.busy.specs.declared.busiest.Op.{Op as Busied}
 use Rattle.machine_model.proofs.Cases.{one, minus}
 use Rattle.machine_model.proofs.Cases as more
 use Rattle.patch_check.specs.Check.{check}
@@ -27,11 +31,12 @@ use Rattle.flattening.specs.Flatten.Flat.{loose, flat}
 use Rattle.flattening.specs.declared.body.Body.{Body}
 
 -- a patch and its input, checked and run as the runner does; a patch joined; a patch flattened; a run over a tape, a room and a budget of its
--- own, and the lane of such a run; values sent to an empty ring that starts at a place, and taken again
+-- own, and the lane of such a run; a patch run on a budget, with the counts of its ops; values sent to an empty ring that starts at a place, and taken again
 data Try : Type 0 where
   ran marked : List Op → List ℕ → Try
   joined flattened : List Op → Try
   run-in lane-in : more.Case → Try
+  counted : List Op → ℕ → Try
   rung : ℕ → List ℕ → Try
 
 record Case : Type 0 where
@@ -76,15 +81,26 @@ unfolding peekOf before
 show-ring zero channel first waiting = first ∷ waiting ∷ []
 show-ring (suc n) channel first waiting = before (peekOf channel first waiting) (λ f w. show-ring n channel f w)
 
+-- place and count of each
+show-busy : List Busied → List ℕ
+show-busy [] = []
+show-busy (x ∷ xs) = x .place ∷ x .count ∷ show-busy xs
+
+-- 02, ask 11: the counts of the ops, and then "place and count of the ten busiest"
+show-counts : List ℕ → List ℕ
+unfolding show-busy busiestOf ranked withOp insert firstOf otherOf busier
+show-counts cs = cs ++ show-busy (busiestOf cs)
+
 -- "4,096 cells, room for 4,096 outputs, budget 100,000"
 tried : Try → List ℕ
-unfolding show-run run check fresh show-ops show-flat join flatten more.tried more.lane-tried sent show-ring
+unfolding show-run run check fresh show-ops show-flat join flatten more.tried more.lane-tried sent show-ring runCounts driveCounts raised show-counts
 tried (ran os vs) = show-run (check os) (run (given os rustTable vs 4096) 100_000 (fresh 4096))
 tried (marked os vs) = show-run (check os) (run (given os byMark vs 4096) 100_000 (fresh 4096))
 tried (joined os) = show-ops (join os)
 tried (flattened os) = show-flat (flatten os)
 tried (run-in c) = more.tried c
 tried (lane-in c) = more.lane-tried c
+tried (counted os b) = show-counts (runCounts (given os rustTable [] 4096) b (fresh 4096) (replicate (length os) 0))
 tried (rung first vs) = show-ring (length vs) (sent (replicate 256 0) first 0 vs) first (length vs)
 
 least : ℕ
@@ -143,14 +159,26 @@ nine-by-mark : Case
 unfolding one case prints
 nine-by-mark = case (marked (one 1 ∷ control call ∷ one 0 ∷ control call ∷ control ret ∷ prints 65 (prints 66 [])) []) (0 ∷ 15 ∷ 0 ∷ 11 ∷ 5 ∷ 65 ∷ 0 ∷ 0 ∷ 66 ∷ 65 ∷ [])
 
+-- 02, ask 11. Case 9: the second routine ran twice. A comment, an op and one that is refused: the op alone is counted. A loop made twice, and the same with two
+-- steps; its End is counted where it stands, not where it leads
+counts : List Case
+unfolding one case prints
+counts =
+    case (counted (one 1 ∷ control call ∷ one 0 ∷ control call ∷ control ret ∷ prints 65 (prints 66 [])) 100_000)
+    (1 ∷ 1 ∷ 1 ∷ 1 ∷ 1 ∷ 0 ∷ 0 ∷ 0 ∷ 0 ∷ 0 ∷ 0 ∷ 2 ∷ 2 ∷ 2 ∷ 0 ∷ 11 ∷ 2 ∷ 12 ∷ 2 ∷ 13 ∷ 2 ∷ 0 ∷ 1 ∷ 1 ∷ 1 ∷ 2 ∷ 1 ∷ 3 ∷ 1 ∷ 4 ∷ 1 ∷ [])
+    ∷ case (counted (plain (comment (97 ∷ [])) ∷ one 1 ∷ plain (cell Add 1) ∷ []) 100_000) (0 ∷ 1 ∷ 0 ∷ 1 ∷ 1 ∷ [])
+    ∷ case (counted (one 2 ∷ control while ∷ plain (lane Dec 1) ∷ control end ∷ []) 100_000) (1 ∷ 1 ∷ 2 ∷ 2 ∷ 2 ∷ 2 ∷ 3 ∷ 2 ∷ 0 ∷ 1 ∷ 1 ∷ 1 ∷ [])
+    ∷ case (counted (one 2 ∷ control while ∷ plain (lane Dec 1) ∷ control end ∷ []) 2) (1 ∷ 1 ∷ 0 ∷ 0 ∷ 0 ∷ 1 ∷ 1 ∷ 1 ∷ [])
+    ∷ []
+
 -- three values over the end of the ring: the places 255, 0 and 1
 wraps : Case
 unfolding case
 wraps = case (rung 255 (7 ∷ 8 ∷ 9 ∷ [])) (7 ∷ 8 ∷ 9 ∷ 2 ∷ 0 ∷ [])
 
 cases : List Case
-unfolding thirteen nine-by-mark wraps case more.cases more.lanes
-cases = thirteen ++ (nine-by-mark ∷ []) ++ map (λ c. case (run-in c) (c .seen)) more.cases ++ map (λ c. case (lane-in c) (c .seen)) more.lanes ++ (wraps ∷ [])
+unfolding thirteen nine-by-mark counts wraps case more.cases more.lanes
+cases = thirteen ++ (nine-by-mark ∷ []) ++ counts ++ map (λ c. case (run-in c) (c .seen)) more.cases ++ map (λ c. case (lane-in c) (c .seen)) more.lanes ++ (wraps ∷ [])
 
 all : map (λ c. tried (c .make)) cases ≡ map (λ c. c .seen) cases
 unfolding tried cases

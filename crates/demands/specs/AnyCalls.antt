@@ -5,8 +5,7 @@ use mathlib.Core.List.{List}
 use Prim.Native.Nat.{ℕ}
 use Rattle.machine_model.specs.State.{State, Given, fresh}
 use Rattle.machine_model.specs.Run.{run}
-use Rattle.machine_step.specs.Held.{Slices}
-use Rattle.machine.specs.Calls.{lent, stepCall, steppedTo, runCall, ranTo, freshCall}
+use Rattle.machine.specs.Calls.{Slices, lent, stepCall, steppedTo, runCall, ranTo, freshCall}
 use Rattle.machine.specs.declared.machine.Machine.{Machine}
 use Rattle.machine.specs.declared.machine.Stepped.{Stepped}
 use Rattle.machine.specs.declared.machine.Ran as code

@@ -1,3 +1,4 @@
 pub mod Reached
 pub mod ReachedBy
 pub mod AnyCalls
+pub mod CameTo

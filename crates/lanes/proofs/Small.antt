@@ -6,7 +6,7 @@ use native.Mathlib.Nat.{le-trans, le-of-eq, lt-of-lt-of-le, le-add-right, not-le
 use native.Mathlib.Omega.{arith}
 use mathlib.Core.Bool.{Bool, true, false, not}
 use mathlib.Core.Logic.{⊎-elim}
-use borrow.Author.Tests.{le-ltb, ltb-false, ne-eqb}
+use borrow.Author.Tests.{lt-ltb, le-ltb, ltb-false, ne-eqb}
 use lib.Dec.{T, leb}
 use lib.IntN.{ℤ}
 use lib.Pow.{pow-add, pow-pos, pow-mono, shl-lt, mod-mod-pow}
@@ -110,19 +110,27 @@ module _ (a b : ℕ) (h : a < 2 ^ 64) (p : T (not (nanBits binary64 a))) (q : T 
       (λ g. rw (infinite b (omega (arith, g, most)) (omega (arith, g, most, fields b))) (by-infinity (loadedOf a) _ _ _ _ (value a finite)))
       (lt-or-ge (field b) 2047)
 
-  pub rem-smaller : a ≡ floatRem a b
+  rem-smaller : a ≡ floatRem a b
   rem-smaller = sym (stored-is _ ∙ ap (toBits binary64) left ∙ toBits-ofBits binary64 a h (rw (← nanBits-is binary64 a) p))
 
--- what `float_rem` tests: t is the answer of `nan_bits`
-module _ (a b : ℕ) {t : Bool} where
-  pub nan-below : t ≡ nanBits binary64 a → t ≡ false → b % 2 ^ 63 ≤ a % 2 ^ 63 → T (not (nanBits binary64 b))
-  nan-below p q l =
-      let m : a % 2 ^ 63 ≤ 0x7FF0_0000_0000_0000 = ltb-false _ _ (sym (nanBits-above binary64 a) ∙ sym p ∙ q) in
-      let k : b % 2 ^ 63 ≤ 0x7FF0_0000_0000_0000 = omega (arith, m, l) in
-      untrue (nanBits-above binary64 b ∙ le-ltb _ _ k)
+-- what `float_rem` tests: x is `doubled` of a pattern, and is above infinity's double where that is a NaN's
+module _ (a : ℕ) {x : ℕ} (p : x ≡ 2 * (a % 2 ^ 63)) where
+  twice-nan : 0xFFE0_0000_0000_0000 < x → nanBits binary64 a ≡ true
+  twice-nan l = nanBits-above binary64 a ∙ lt-ltb 0x7FF0_0000_0000_0000 (a % 2 ^ 63) (omega (arith, p, l))
 
-  pub rem-of-nan : t ≡ nanBits binary64 a → t ≡ true → 0x7FF8_0000_0000_0000 ≡ floatRem a b
-  rem-of-nan p q = stored-nan _ (rem-strict (loadedOf a) (loadedOf b) (or-first (isNan (loadedOf a)) (isNan (loadedOf b)) (sym (nanBits-is binary64 a) ∙ sym p ∙ q)))
+  pub twice-number : x ≤ 0xFFE0_0000_0000_0000 → T (not (nanBits binary64 a))
+  twice-number l = untrue (nanBits-above binary64 a ∙ le-ltb 0x7FF0_0000_0000_0000 (a % 2 ^ 63) (omega (arith, p, l)))
 
-  pub rem-by-nan : t ≡ nanBits binary64 b → t ≡ true → 0x7FF8_0000_0000_0000 ≡ floatRem a b
-  rem-by-nan p q = stored-nan _ (rem-strict (loadedOf a) (loadedOf b) (or-second (isNan (loadedOf a)) (isNan (loadedOf b)) (sym (nanBits-is binary64 b) ∙ sym p ∙ q)))
+module _ (a b : ℕ) {x : ℕ} where
+  pub rem-of-nan : x ≡ 2 * (a % 2 ^ 63) → 0xFFE0_0000_0000_0000 < x → 0x7FF8_0000_0000_0000 ≡ floatRem a b
+  rem-of-nan p l = stored-nan _ (rem-strict (loadedOf a) (loadedOf b) (or-first (isNan (loadedOf a)) (isNan (loadedOf b)) (sym (nanBits-is binary64 a) ∙ twice-nan a p l)))
+
+  pub rem-by-nan : x ≡ 2 * (b % 2 ^ 63) → 0xFFE0_0000_0000_0000 < x → 0x7FF8_0000_0000_0000 ≡ floatRem a b
+  rem-by-nan p l = stored-nan _ (rem-strict (loadedOf a) (loadedOf b) (or-second (isNan (loadedOf a)) (isNan (loadedOf b)) (sym (nanBits-is binary64 b) ∙ twice-nan b p l)))
+
+module _ (a b : ℕ) {x y : ℕ} (p : x ≡ 2 * (a % 2 ^ 63)) (q : y ≡ 2 * (b % 2 ^ 63)) where
+  pub rem-below : a < 2 ^ 64 → x < y → y ≤ 0xFFE0_0000_0000_0000 → a ≡ floatRem a b
+  rem-below h l m = rem-smaller a b h (twice-number a p (omega (arith, l, m))) (twice-number b q m) (omega (arith, p, q, l))
+
+  pub divisor-number : y ≤ x → x ≤ 0xFFE0_0000_0000_0000 → T (not (nanBits binary64 b))
+  divisor-number l m = twice-number b q (omega (arith, l, m))

@@ -2,6 +2,7 @@
 // read as the one NaN, and a NaN that an op gives is stored as one pattern. Each of + - * % leaves where an operand is a NaN, which no sum needs.
 ghost use mathlib.Core.Path.{_≡_};
 ghost use mathlib.Core.Bool.{_||_};
+ghost use Prim.Native.Nat.{_*_, _%_, _^_};
 ghost use lib.Ieee.{binary64, nanBits};
 ghost use Rattle.lanes.specs.Float.{storedOf, floatAdd, floatSub, floatMul, floatDiv, floatRem, floatNeg, floatGez, toInt, toFloat};
 use crate::int::HALF;
@@ -13,6 +14,9 @@ use crate::int::with_sign;
 pub const NAN: u64 = 0x7FF8_0000_0000_0000;
 
 const LIFT: u64 = 0xF_FFFF_FFFF_FFFF;
+
+// Infinity's pattern, twice.
+const TWICE_INFINITY: u64 = 0xFFE0_0000_0000_0000;
 
 // Whether a pattern is a NaN's: below the sign it is above infinity's.
 fn nan_bits(a: u64) -> bool
@@ -100,17 +104,27 @@ pub fn float_div(a: u64, b: u64) -> u64
     as_int(f64::from_bits(x) / f64::from_bits(y))
 }
 
-// A float below the divisor in size, as every finite one is below infinity, is its own remainder, and no call is made for it.
+// A pattern without the sign's bit, twice: it keeps the order of sizes, and takes one sum.
+fn doubled(a: u64) -> u64
+    ensures { λ r. ⌜ r ≡ 2 * (a % 2 ^ 63) ⌝ }
+{
+    std::num::wrapping_add_u64(a, a)
+}
+
+// A float below the divisor in size, as every finite one is below infinity, is its own remainder, and no call is made for it. A NaN's pattern is
+// above infinity's, and so is its double.
 pub fn float_rem(a: u64, b: u64) -> u64
     ensures { λ r. ⌜ r ≡ floatRem a b ⌝ }
 {
-    if a % HALF < b % HALF {
-        if nan_bits(b) {
+    let x = doubled(a);
+    let y = doubled(b);
+    if x < y {
+        if y > TWICE_INFINITY {
             return NAN;
         }
         return a;
     }
-    if nan_bits(a) {
+    if x > TWICE_INFINITY {
         return NAN;
     }
     as_int(f64::from_bits(a) % f64::from_bits(b))

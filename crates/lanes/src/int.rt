@@ -1,6 +1,8 @@
 // A lane as a 64-bit integer in two's complement, by its pattern: one function for each arm of the Rust's `step`, in the order of the arms.
 ghost use mathlib.Core.Path.{_≡_};
 ghost use Prim.Native.Nat.{_*_, _%_, _^_};
+ghost use mathlib.Core.Bool.{not};
+ghost use lib.Dec.{ltb};
 ghost use lib.IntN.{natAbs};
 ghost use Rattle.lanes.specs.Int.{signed, wrap, signedBy, intAdd, intSub, intMul, intNeg, intInc, intDec, intDiv, intRem, intShl, intShr, intSar, bitNand, bitAnd, bitOr, bitXor, bitNot, boolAnd, boolOr, boolNot, intGez};
 
@@ -27,6 +29,15 @@ pub fn with_sign(negative: bool, m: u64) -> u64
     } else {
         m
     }
+}
+
+// The pattern of m, with the sign's bit of a: taken from 0 that bit is no digit or all of them, and -m is m - 1 with every digit changed. So no
+// branch is taken on the sign.
+pub fn signed_like(a: u64, m: u64) -> u64
+    ensures { λ r. ⌜ r ≡ wrap (signedBy (not (ltb a (2 ^ 63))) m) ⌝ }
+{
+    let s = std::num::wrapping_sub_u64(0, a / HALF);
+    std::num::wrapping_add_u64(m, s) ^ s
 }
 
 // a * b, modulo 2^64, from the products of the halves.
@@ -118,14 +129,15 @@ pub fn int_mul(a: u64, b: u64) -> u64
     wrapping_mul(a, b)
 }
 
+// The top bit of x tells whether the signs are unlike, and where b is 0 x is the lane.
 pub fn int_div(a: u64, b: u64) -> u64
     ensures { λ r. ⌜ r ≡ intDiv a b ⌝ }
 {
+    let x = a ^ b;
     if b == 0 {
-        return a; // no quotient: the lane is left
+        return x; // no quotient: the lane is left
     }
-    let unlike = (a < HALF) != (b < HALF);
-    with_sign(unlike, magnitude(a) / magnitude(b))
+    signed_like(x, magnitude(a) / magnitude(b))
 }
 
 pub fn int_rem(a: u64, b: u64) -> u64
@@ -134,7 +146,7 @@ pub fn int_rem(a: u64, b: u64) -> u64
     if b == 0 {
         return a; // no remainder: the lane is left
     }
-    with_sign(!(a < HALF), magnitude(a) % magnitude(b))
+    signed_like(a, magnitude(a) % magnitude(b))
 }
 
 pub fn int_neg(a: u64) -> u64

@@ -6,8 +6,7 @@ use lib.Dec.{ltb}
 use lib.ListN.{length}
 use Rattle.lane_loops.specs.Loops.{zipTo, beside}
 use Rattle.patch_reader.specs.declared.reader.Read.{Read}
-use Rattle.machine_step.specs.Held.{Slices, slices}
-use Rattle.bridge.specs.Run.{Ran}
+use Rattle.machine.specs.Calls.{Slices, slices, Ended}
 use Rattle.answers.specs.Run as running
 use Rattle.answers.specs.Check as checking
 use Rattle.answers.specs.declared.check.Verdict.{Verdict}
@@ -44,12 +43,13 @@ pub record Run : Type 0 where
 abbrev pub run : ℕ → List ℕ → Slices → Run
 run n a l = record { given = given n a; lent = l }
 
-abbrev pub ofRun : Ran → List ℕ → Run
+abbrev pub ofRun : Ended → List ℕ → Run
 ofRun r a =
     let number = running.numberOf (r .answer) in
-    let place = running.placeOf (r .answer) (r .held .numbers .position) in
-    run number (told (number ∷ place ∷ r .steps ∷ r .held .numbers .written ∷ running.laneOf (r .answer) ∷ []) a)
-    (slices (r .held .register) (r .held .tape) (r .held .table) (r .held .channel) (r .held .output))
+    let c = r .left .held in
+    let place = running.placeOf (r .answer) (c .numbers .position) in
+    run number (told (number ∷ place ∷ r .steps ∷ c .numbers .written ∷ running.laneOf (r .answer) ∷ []) a)
+    (slices (c .register) (c .tape) (c .table) (c .channel) (c .output) (r .left .tally))
 
 -- ---- joining: number, place and the bytes written; and the lent bytes
 pub record Join : Type 0 where

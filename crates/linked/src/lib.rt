@@ -4,8 +4,7 @@
 ghost use mathlib.Core.Path.{_≡_};
 ghost use Rattle.ops.specs.Patch.{patchOf};
 ghost use Rattle.patch_reader.specs.Answer.{readOf};
-ghost use Rattle.machine_step.specs.Held.{slices};
-ghost use Rattle.machine.specs.Calls.{freshCall};
+ghost use Rattle.machine.specs.Calls.{slices, freshCall};
 ghost use Rattle.patch_check.specs.File.{checkOf};
 ghost use Rattle.joining.specs.Joined.{joinOf};
 ghost use Rattle.flattening.specs.Flattened.{flattenOf};
@@ -51,11 +50,12 @@ pub extern "C" fn feltcairn_run_fresh(
     channel: &mut [u64],
     input: &[u64],
     output: &mut [u64],
+    tally: &mut [u64],
     budget: u32,
     mode: u32,
     answer: &mut [u64],
 ) -> usize
-    ensures { λ r. ⌜ run r (now (answer .exit)) (slices (now (register .exit)) (now (tape .exit)) (now (table .exit)) (now (channel .exit)) (now (output .exit))) ≡ ofRun (freshCall (now (bytes .entry)) (now (input .entry)) budget mode (slices (now (register .entry)) (now (tape .entry)) (now (table .entry)) (now (channel .entry)) (now (output .entry)))) (now (answer .entry)) ⌝ }
+    ensures { λ r. ⌜ run r (now (answer .exit)) (slices (now (register .exit)) (now (tape .exit)) (now (table .exit)) (now (channel .exit)) (now (output .exit)) (now (tally .exit))) ≡ ofRun (freshCall (now (bytes .entry)) (now (input .entry)) budget mode (slices (now (register .entry)) (now (tape .entry)) (now (table .entry)) (now (channel .entry)) (now (output .entry)) (now (tally .entry)))) (now (answer .entry)) ⌝ }
 {
     let r = Machine::run_fresh(
         bytes,
@@ -65,6 +65,7 @@ pub extern "C" fn feltcairn_run_fresh(
         channel,
         input,
         output,
+        tally,
         budget,
         mode,
     );

@@ -15,10 +15,9 @@ use Rattle.partners.specs.Columns.{nowhere, partnersOf, turnsOf, functionsOf, f
 use Rattle.partners.specs.Read.{patchRead}
 use Rattle.partners.specs.declared.patch.Patch.{Patch}
 use Rattle.partners.proofs.Lent.{few-functions, start-many, start-fits, end-long, many-partners, many-turns}
-use Rattle.machine_step.specs.Held.{Held, code}
-use Rattle.bridge.specs.Run.{ran}
+use Rattle.machine_step.specs.Held.{code}
 use Rattle.machine_run.specs.Ready.{IsRead}
-use Rattle.machine.specs.Calls.{runCall}
+use Rattle.machine.specs.Calls.{Tallied, ended, runCall}
 use Rattle.machine.proofs.Called.{run-bad, is-loaded, is-read}
 
 module _ (s : List ℕ) (q : Patch) (e : q ≡ patchRead s) where
@@ -62,5 +61,5 @@ module _ (s : List ℕ) (q : Patch) (e : q ≡ patchRead s) where
       let p = found .1 .1 in
       (omega (arith, p .0), omega (arith, n, end-long _ _ _ (q .first) (p .0 ∙ sym n) (p .1)))
 
-  pub handed-bad : (input : List ℕ) → (q .number ≡ 0 → ⊥) → (n : ℕ) (c : Held) → ran (BadFile (q .number) (q .place)) 0 c ≡ runCall s input n c
-  handed-bad input z n c = run-bad s input answered (loaded .0) z n c
+  pub handed-bad : (input : List ℕ) → (q .number ≡ 0 → ⊥) → (n : ℕ) (w : Tallied) → ended (BadFile (q .number) (q .place)) 0 w ≡ runCall s input n w
+  handed-bad input z n w = run-bad s input answered (loaded .0) z n w

@@ -2,13 +2,17 @@
 ghost use mathlib.Core.Path.{_≡_};
 ghost use Prim.Native.Nat.{ℕ};
 ghost use Rattle.partners.specs.Read.{patchRead};
-ghost use Rattle.machine_step.specs.Held.{slices, code};
-ghost use Rattle.machine.specs.Calls.{lent, stepCall, steppedTo, runCall, ranTo};
+ghost use Rattle.busy.specs.Sums.{addsUp};
+ghost use Rattle.machine_step.specs.Held.{code};
+ghost use Rattle.machine.specs.Calls.{slices, lent, stepCall, steppedTo, runCall, ranTo};
 ghost use Rattle.machine_run.specs.Ready.{IsLoaded, IsRead};
 use crate::machine::Machine;
 use crate::machine::Ran;
 use crate::machine::Stepped;
 use answers::run::Answer;
+use busy::sums::adds_up;
+use busy::sums::allowed_steps;
+use busy::sums::total_after;
 use machine_run::going::go;
 use partners::patch::Patch;
 use partners::scan::NOWHERE;
@@ -17,7 +21,7 @@ use patch_reader::reader::load;
 use states::formed::is_formed;
 
 impl Machine {
-    // The run of a patch that is read, by its columns: the test of the state, then the steps.
+    // The run of a patch that is read, by its columns, where `stand` says whether the counts add up: the test of the state, then the steps.
     pub(crate) fn run_read(
         mut self,
         rows: &[u8],
@@ -34,10 +38,12 @@ impl Machine {
         channel: &mut [u64],
         input: &[u64],
         output: &mut [u64],
+        tally: &mut [u64],
+        stand: bool,
         budget: u32,
     ) -> Ran
-        requires { ⌜ IsRead (now bytes) (code (now rows) (now counts) (now needs) (now payloads) (now partners) (now turns) (now marks) (now bytes)) ⌝ }
-        ensures { λ r. ⌜ ranTo r (slices (now (register .exit)) (now (tape .exit)) (now (table .exit)) (now (channel .exit)) (now (output .exit))) ≡ runCall (now (bytes .entry)) (now (input .entry)) budget (lent self (slices (now (register .entry)) (now (tape .entry)) (now (table .entry)) (now (channel .entry)) (now (output .entry)))) ⌝ }
+        requires { ⌜ IsRead (now bytes) (code (now rows) (now counts) (now needs) (now payloads) (now partners) (now turns) (now marks) (now bytes)) × (stand ≡ addsUp (now rows) (now tally) (self .total)) ⌝ }
+        ensures { λ r. ⌜ ranTo r (slices (now (register .exit)) (now (tape .exit)) (now (table .exit)) (now (channel .exit)) (now (output .exit)) (now (tally .exit))) ≡ runCall (now (bytes .entry)) (now (input .entry)) budget (lent self (slices (now (register .entry)) (now (tape .entry)) (now (table .entry)) (now (channel .entry)) (now (output .entry)) (now (tally .entry)))) ⌝ }
     {
         let h = self.numbers;
         let mut calls = self.calls;
@@ -54,6 +60,14 @@ impl Machine {
             output,
             input.len(),
         ) {
+            return Ran {
+                answer: Answer::NotAState,
+                steps: 0,
+                machine: self,
+            };
+        }
+        let total = self.total;
+        if !stand {
             return Ran {
                 answer: Answer::NotAState,
                 steps: 0,
@@ -78,16 +92,19 @@ impl Machine {
             channel,
             input,
             output,
-            budget,
+            tally,
+            allowed_steps(budget, total),
         );
         let answer = ended.answer;
+        let made = ended.steps;
         let left = ended.numbers;
         self.numbers = left;
         self.calls = calls;
         self.refs = refs;
+        self.total = total_after(total, made);
         Ran {
             answer,
-            steps: ended.steps,
+            steps: made,
             machine: self,
         }
     }
@@ -106,10 +123,12 @@ impl Machine {
         channel: &mut [u64],
         input: &[u64],
         output: &mut [u64],
+        tally: &mut [u64],
+        stand: bool,
         budget: u32,
     ) -> Ran
-        requires { ⌜ IsLoaded (now bytes) (now rows) (now counts) (now needs) (now payloads) ⌝ }
-        ensures { λ r. ⌜ ranTo r (slices (now (register .exit)) (now (tape .exit)) (now (table .exit)) (now (channel .exit)) (now (output .exit))) ≡ runCall (now (bytes .entry)) (now (input .entry)) budget (lent self (slices (now (register .entry)) (now (tape .entry)) (now (table .entry)) (now (channel .entry)) (now (output .entry)))) ⌝ }
+        requires { ⌜ IsLoaded (now bytes) (now rows) (now counts) (now needs) (now payloads) × (stand ≡ addsUp (now rows) (now tally) (self .total)) ⌝ }
+        ensures { λ r. ⌜ ranTo r (slices (now (register .exit)) (now (tape .exit)) (now (table .exit)) (now (channel .exit)) (now (output .exit)) (now (tally .exit))) ≡ runCall (now (bytes .entry)) (now (input .entry)) budget (lent self (slices (now (register .entry)) (now (tape .entry)) (now (table .entry)) (now (channel .entry)) (now (output .entry)) (now (tally .entry)))) ⌝ }
     {
         let mut partners = [NOWHERE; Machine::OPS];
         let mut turns = [NOWHERE; Machine::OPS];
@@ -131,6 +150,8 @@ impl Machine {
             channel,
             input,
             output,
+            tally,
+            stand,
             budget,
         )
     }
@@ -145,9 +166,10 @@ impl Machine {
         channel: &mut [u64],
         input: &[u64],
         output: &mut [u64],
+        tally: &mut [u64],
         budget: u32,
     ) -> Ran
-        ensures { λ r. ⌜ ranTo r (slices (now (register .exit)) (now (tape .exit)) (now (table .exit)) (now (channel .exit)) (now (output .exit))) ≡ runCall (now (bytes .entry)) (now (input .entry)) budget (lent self (slices (now (register .entry)) (now (tape .entry)) (now (table .entry)) (now (channel .entry)) (now (output .entry)))) ⌝ }
+        ensures { λ r. ⌜ ranTo r (slices (now (register .exit)) (now (tape .exit)) (now (table .exit)) (now (channel .exit)) (now (output .exit)) (now (tally .exit))) ≡ runCall (now (bytes .entry)) (now (input .entry)) budget (lent self (slices (now (register .entry)) (now (tape .entry)) (now (table .entry)) (now (channel .entry)) (now (output .entry)) (now (tally .entry)))) ⌝ }
     {
         let mut rows = [0u8; Machine::OPS];
         let mut counts = [0u16; Machine::OPS];
@@ -163,6 +185,7 @@ impl Machine {
             };
         }
         let n = read.ops;
+        let stand = adds_up(&rows[..n], tally, self.total);
         self.run_loaded(
             &rows[..n],
             &counts[..n],
@@ -175,6 +198,8 @@ impl Machine {
             channel,
             input,
             output,
+            tally,
+            stand,
             budget,
         )
     }
@@ -190,10 +215,11 @@ impl Machine {
         channel: &mut [u64],
         input: &[u64],
         output: &mut [u64],
+        tally: &mut [u64],
         budget: u32,
     ) -> Ran
         requires { ⌜ patch ≡ patchRead (now bytes) ⌝ }
-        ensures { λ r. ⌜ ranTo r (slices (now (register .exit)) (now (tape .exit)) (now (table .exit)) (now (channel .exit)) (now (output .exit))) ≡ runCall (now (bytes .entry)) (now (input .entry)) budget (lent self (slices (now (register .entry)) (now (tape .entry)) (now (table .entry)) (now (channel .entry)) (now (output .entry)))) ⌝ }
+        ensures { λ r. ⌜ ranTo r (slices (now (register .exit)) (now (tape .exit)) (now (table .exit)) (now (channel .exit)) (now (output .exit)) (now (tally .exit))) ≡ runCall (now (bytes .entry)) (now (input .entry)) budget (lent self (slices (now (register .entry)) (now (tape .entry)) (now (table .entry)) (now (channel .entry)) (now (output .entry)) (now (tally .entry)))) ⌝ }
     {
         let number = patch.number;
         if number != 0 {
@@ -212,6 +238,7 @@ impl Machine {
         let partners = patch.partners;
         let turns = patch.turns;
         let marks = patch.marks;
+        let stand = adds_up(&rows[..n], tally, self.total);
         self.run_read(
             &rows[..n],
             &counts[..n],
@@ -227,6 +254,8 @@ impl Machine {
             channel,
             input,
             output,
+            tally,
+            stand,
             budget,
         )
     }
@@ -241,10 +270,21 @@ impl Machine {
         channel: &mut [u64],
         input: &[u64],
         output: &mut [u64],
+        tally: &mut [u64],
     ) -> Stepped
-        ensures { λ r. ⌜ steppedTo r (slices (now (register .exit)) (now (tape .exit)) (now (table .exit)) (now (channel .exit)) (now (output .exit))) ≡ stepCall (now (bytes .entry)) (now (input .entry)) (lent self (slices (now (register .entry)) (now (tape .entry)) (now (table .entry)) (now (channel .entry)) (now (output .entry)))) ⌝ }
+        ensures { λ r. ⌜ steppedTo r (slices (now (register .exit)) (now (tape .exit)) (now (table .exit)) (now (channel .exit)) (now (output .exit)) (now (tally .exit))) ≡ stepCall (now (bytes .entry)) (now (input .entry)) (lent self (slices (now (register .entry)) (now (tape .entry)) (now (table .entry)) (now (channel .entry)) (now (output .entry)) (now (tally .entry)))) ⌝ }
     {
-        let r = self.run(bytes, register, tape, table, channel, input, output, 1);
+        let r = self.run(
+            bytes,
+            register,
+            tape,
+            table,
+            channel,
+            input,
+            output,
+            tally,
+            1,
+        );
         let answer = r.answer;
         let next = r.machine;
         self = next;

@@ -1,8 +1,8 @@
-// The fresh run: it reads the patch first, then tests the call mode and the lent room, then writes its zeros and works as any run.
+// The fresh run: it reads the patch first, then tests the call mode, the lent room and that there is a count for each op, then writes its zeros and works
+// as any run.
 ghost use mathlib.Core.Path.{_≡_};
 ghost use Prim.Native.Nat.{ℕ};
-ghost use Rattle.machine_step.specs.Held.{slices};
-ghost use Rattle.machine.specs.Calls.{ranTo, freshCall};
+ghost use Rattle.machine.specs.Calls.{slices, ranTo, freshCall};
 use crate::machine::Machine;
 use crate::machine::Ran;
 use answers::run::Answer;
@@ -11,7 +11,7 @@ use states::formed::can_start;
 use states::zeros::zero;
 
 impl Machine {
-    // Zeros to the register's lanes and to the tape, and then a run from the fresh machine, which keeps the call mode.
+    // Zeros to the register's lanes, to the tape and to the counts, and then a run from the fresh machine, which keeps the call mode.
     pub fn run_fresh(
         bytes: &[u8],
         register: &mut [u64],
@@ -20,10 +20,11 @@ impl Machine {
         channel: &mut [u64],
         input: &[u64],
         output: &mut [u64],
+        tally: &mut [u64],
         budget: u32,
         mode: u32,
     ) -> Ran
-        ensures { λ r. ⌜ ranTo r (slices (now (register .exit)) (now (tape .exit)) (now (table .exit)) (now (channel .exit)) (now (output .exit))) ≡ freshCall (now (bytes .entry)) (now (input .entry)) budget mode (slices (now (register .entry)) (now (tape .entry)) (now (table .entry)) (now (channel .entry)) (now (output .entry))) ⌝ }
+        ensures { λ r. ⌜ ranTo r (slices (now (register .exit)) (now (tape .exit)) (now (table .exit)) (now (channel .exit)) (now (output .exit)) (now (tally .exit))) ≡ freshCall (now (bytes .entry)) (now (input .entry)) budget mode (slices (now (register .entry)) (now (tape .entry)) (now (table .entry)) (now (channel .entry)) (now (output .entry)) (now (tally .entry))) ⌝ }
     {
         let mut rows = [0u8; Machine::OPS];
         let mut counts = [0u16; Machine::OPS];
@@ -46,10 +47,18 @@ impl Machine {
                 machine: m,
             };
         }
+        let n = read.ops;
+        if tally.len() != n {
+            return Ran {
+                answer: Answer::NotAState,
+                steps: 0,
+                machine: m,
+            };
+        }
         let cells = tape.len();
         zero(register, Machine::LANES);
         zero(tape, cells);
-        let n = read.ops;
+        zero(tally, n);
         m.run_loaded(
             &rows[..n],
             &counts[..n],
@@ -62,6 +71,8 @@ impl Machine {
             channel,
             input,
             output,
+            tally,
+            true,
             budget,
         )
     }

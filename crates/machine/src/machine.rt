@@ -1,4 +1,4 @@
-// The machine: its stacks and its numbers, with its limits and its fresh state; and what its calls leave.
+// The machine: its stacks, its numbers and its step total, with its limits and its fresh state; and what its calls leave.
 ghost use mathlib.Core.Path.{_≡_};
 ghost use Rattle.machine.specs.Fresh.{limitsOf, freshOf};
 use answers::run::Answer;
@@ -8,6 +8,7 @@ pub struct Machine {
     pub calls: [u16; Numbers::CALLS],
     pub refs: [u32; Numbers::REFS],
     pub numbers: Numbers,
+    pub total: u64,
 }
 
 // The limits, each the last accepted.
@@ -22,6 +23,7 @@ pub struct Capacities {
     pub pointer: usize,
     pub length: usize,
     pub budget: u32,
+    pub total: u64,
 }
 
 pub struct Stepped {
@@ -56,6 +58,8 @@ impl Machine {
 
     pub const BUDGET: u32 = 0xffffffff;
 
+    pub const TOTAL: u64 = busy::sums::TOTAL;
+
     // What the constants are.
     pub fn limits() -> Capacities
         ensures { λ r. ⌜ r ≡ limitsOf ⌝ }
@@ -71,6 +75,7 @@ impl Machine {
             pointer: Machine::POINTER,
             length: Machine::LENGTH,
             budget: Machine::BUDGET,
+            total: Machine::TOTAL,
         }
     }
 
@@ -100,6 +105,7 @@ impl Machine {
                 halted: false,
                 mode,
             },
+            total: 0,
         }
     }
 }

@@ -7,7 +7,7 @@ use native.Mathlib.Nat.{not-suc-le-zero, le-of-suc-le-suc, suc-mul}
 use native.Mathlib.Omega.{arith}
 use native.Mathlib.Numerals.{add-one}
 use lib.Dec.{leb, eqb}
-use lib.ListN.{length, getD, length-map}
+use lib.ListN.{length, getD, length-map, length-set}
 use mir.Val
 use mir.Syntax.{w8}
 use borrow.Author.Tests.{leb-false, le-leb, lt-leb, eq-eqb, ne-eqb, eqb-true, eqb-false}
@@ -24,6 +24,8 @@ use Rattle.machine_model.proofs.Passing.{past-on, past-here, bits-beyond}
 use Rattle.partners.specs.Columns.{Stored}
 use Rattle.machine_numbers.specs.declared.numbers.Numbers.{Numbers}
 use Rattle.machine_numbers.specs.Numbers.{OpAnswer, answered, halt, halting, refusedBy, gathered, running, stepped}
+use Rattle.busy.specs.Sums.{mostSteps, raised, sum}
+use Rattle.busy.proofs.SumLaws.{sum-raised, one-of-sum}
 use Rattle.machine_step.specs.Held.{Held, held, After, after, Code}
 use Rattle.machine_step.specs.Step.{stepOf}
 use Rattle.bridge.specs.View.{view, laid}
@@ -31,14 +33,14 @@ use Rattle.bridge.specs.Decoded.{codeOf, givenTo}
 use Rattle.machine_step.specs.Payloads.{PayloadsInBytes}
 use Rattle.machine_step.specs.CanStep.{CanStep}
 use Rattle.bridge.specs.Fits.{Fits}
-use Rattle.bridge.specs.Run.{Ran, ran, standing, rowComment, pastOf, pastIn, driveOf, runOf}
+use Rattle.bridge.specs.Run.{Ran, ran, standing, rowComment, pastOf, pastIn, driveOf, runOf, driveCountsOf, runCountsOf}
 use Rattle.bridge.proofs.Decoded.{Bytes, rows, many-rows, payloads-in-bytes, places-stored}
 use Rattle.bridge.proofs.Partners.{few-entries}
 use Rattle.bridge.proofs.Steps.{step-is}
 use Rattle.bridge.proofs.Real.{Real, step-real}
 use Rattle.bridge.proofs.Real.Real.{goes, stops}
 use Rattle.bridge.proofs.Runs.{step-fits, standing-fits}
-use Rattle.machine_run.specs.Ready.{ReadyToRun, overOf, endedBy, madeBy}
+use Rattle.machine_run.specs.Ready.{ReadyToRun, ReadyToCount, CanRaise, overOf, endedBy, madeBy, countedBy}
 
 over-halted : (p : Numbers) (n : ℕ) → p .halted ≡ true → overOf p n ≡ true
 unfolding overOf
@@ -55,7 +57,7 @@ module _ (p : Numbers) (n : ℕ) (e : p .halted ≡ false) where
 
 -- ---- the comments at a position
 
-row-in : (ks : List ℕ) (i : ℕ) → i < length ks → getD (map rowComment ks) i false ≡ rowComment (getD ks i 0)
+pub row-in : (ks : List ℕ) (i : ℕ) → i < length ks → getD (map rowComment ks) i false ≡ rowComment (getD ks i 0)
 row-in [] i h = absurd (not-suc-le-zero h)
 row-in (k ∷ ks) zero h = refl
 row-in (k ∷ ks) (suc i) h = row-in ks i (le-of-suc-le-suc h)
@@ -297,6 +299,92 @@ module _ {s input : List ℕ} {x : Code} {budget : ℕ} {from c : Held} {left : 
             same = rw k (drive-on x input c e o q left (budget - left) z a ∙ i .same);
           }
 
+-- ---- the counts in that loop
+
+module _ (x : Code) (input : List ℕ) (c : Held) (cs : List ℕ) where
+  counts-over : (b : ℕ) → overOf (c .numbers) (length (x .rows)) ≡ true → driveCountsOf b x input c cs ≡ cs
+  unfolding driveCountsOf pick overOf
+  counts-over zero e = refl
+  counts-over (suc b) e = rw e refl
+
+  module _ (e : overOf (c .numbers) (length (x .rows)) ≡ false) (o : After) (q : o ≡ stepOf x input c) where
+    counts-on : (b : ℕ) → (b ≡ 0 → ⊥) → o .number ≡ 0 → runCountsOf (b - 1) x input (o .held) (raised cs (c .numbers .position)) ≡ driveCountsOf b x input c cs
+    unfolding runCountsOf driveCountsOf pick overOf
+    counts-on zero z a = absurd (z refl)
+    counts-on (suc b) z a = let d : suc b - 1 ≡ b = omega arith in rw (e, ← q, eq-eqb (o .number) 0 a, d) refl
+
+    counts-refused : (b : ℕ) → (o .number ≡ 0 → ⊥) → driveCountsOf b x input c cs ≡ cs
+    unfolding driveCountsOf pick overOf
+    counts-refused zero a = refl
+    counts-refused (suc b) a = rw (e, ← q, ne-eqb (o .number) 0 a) refl
+
+  -- a halted machine makes no step
+  pub counts-halted : (b : ℕ) → c .numbers .halted ≡ true → runCountsOf b x input c cs ≡ cs
+  unfolding runCountsOf
+  counts-halted b h = ap (λ (d : Held). driveCountsOf b x input d cs) (past-halted x c h) ∙ counts-over b (over-halted (c .numbers) _ h)
+
+-- after some steps, with so many left: a count for each op, which can still be raised so often, and what the run makes of them from here is what it
+-- makes of those at the start
+pub record Tallying (rest : Held → List ℕ → List ℕ) (x : Code) (input : List ℕ) (budget : ℕ) (from : Held) (first : List ℕ) (c : Held) (cs : List ℕ) (left : ℕ) : Type 0 where
+  pub each : length cs ≡ length (x .rows)
+  pub long : length cs ≡ length first
+  pub low : sum cs + left ≤ mostSteps
+  pub same : rest c cs ≡ runCountsOf budget x input from first
+
+abbrev pub Counting : Code → List ℕ → ℕ → Held → List ℕ → Held → List ℕ → ℕ → Type 0
+Counting x input budget from first c cs left = Tallying (runCountsOf left x input) x input budget from first c cs left
+
+module _ {x : Code} {input : List ℕ} {budget : ℕ} {from : Held} {first : List ℕ} {c : Held} {cs : List ℕ} {left : ℕ} (i : Counting x input budget from first c cs left) (run : c .numbers .halted ≡ false) where
+  -- a comment is passed, and not counted
+  pub counts-passing : c .numbers .position < length (x .rows) → getD (x .rows) (c .numbers .position) 0 ≡ 0
+      → Counting x input budget from first (standing c (c .numbers .position + 1)) cs left
+  unfolding runCountsOf
+  counts-passing h z =
+      record { each = i .each; long = i .long; low = i .low; same = ap (λ (d : Held). driveCountsOf left x input d cs) (one-first x c run h z) ∙ i .same }
+
+  counts-settled : pastIn x c ≡ c → driveCountsOf left x input c cs ≡ runCountsOf budget x input from first
+  unfolding runCountsOf
+  counts-settled e = ap (λ (d : Held). driveCountsOf left x input d cs) (sym e) ∙ i .same
+
+  pub counts-at-end : length (x .rows) ≤ c .numbers .position → cs ≡ runCountsOf budget x input from first
+  counts-at-end h = sym (counts-over x input c cs left (over-past (c .numbers) _ run h)) ∙ counts-settled (none-at-end x c run h)
+
+  module _ (h : c .numbers .position < length (x .rows)) (n : getD (x .rows) (c .numbers .position) 0 ≡ 0 → ⊥) where
+    at-this : driveCountsOf left x input c cs ≡ runCountsOf budget x input from first
+    at-this = counts-settled (none-at-op x c run h n)
+
+    pub counts-spent : left ≡ 0 → cs ≡ runCountsOf budget x input from first
+    unfolding driveCountsOf
+    counts-spent z = ap (λ (b : ℕ). driveCountsOf b x input c cs) (sym z) ∙ at-this
+
+    pub can-raise : (left ≡ 0 → ⊥) → CanRaise cs (c .numbers .position)
+    can-raise z = record { there = omega (arith, i .each); low = omega (arith, i .low, z, one-of-sum cs (c .numbers .position)) }
+
+    module _ (z : left ≡ 0 → ⊥) (o : After) (q : o ≡ stepOf x input c) where
+      pub counts-onward : o .number ≡ 0 → Counting x input budget from first (o .held) (raised cs (c .numbers .position)) (left - 1)
+      unfolding raised
+      counts-onward a =
+          let e = length-set cs (c .numbers .position) (getD cs (c .numbers .position) 0 + 1) in
+          record {
+            each = e ∙ i .each;
+            long = e ∙ i .long;
+            low = omega (arith, i .low, z, sum-raised cs (c .numbers .position) (can-raise z .there));
+            same = counts-on x input c cs (over-before (c .numbers) _ run h) o q left z a ∙ at-this;
+          }
+
+      -- the last step halted, and is counted, or was refused, and is not
+      counts-halted-at : o .number ≡ 0 → o .held .numbers .halted ≡ true → raised cs (c .numbers .position) ≡ runCountsOf budget x input from first
+      counts-halted-at a r =
+          sym (counts-halted x input (o .held) (raised cs (c .numbers .position)) (left - 1) r)
+          ∙ counts-on x input c cs (over-before (c .numbers) _ run h) o q left z a
+          ∙ at-this
+
+      counts-refused-at : (o .number ≡ 0 → ⊥) → cs ≡ runCountsOf budget x input from first
+      counts-refused-at a = sym (counts-refused x input c cs (over-before (c .numbers) _ run h) o q left a) ∙ at-this
+
+pub counting-at-first : {x : Code} {input : List ℕ} {budget : ℕ} {c : Held} {cs : List ℕ} → ReadyToCount (x .rows) cs budget → Counting x input budget c cs c cs budget
+counting-at-first h = record { each = h .each; long = refl; low = h .low; same = refl }
+
 -- the measure: a comment passed leaves fewer ops ahead, and a step made fewer steps
 abbrev pub ahead : ℕ → ℕ → ℕ → ℕ
 ahead n left i = left * (n + 1) + (n - i)
@@ -325,24 +413,51 @@ module _ (a : ℕ) (p : Numbers) where
   unfolding stepped pick
   refused n = rw (ne-eqb a 2 n) refl
 
+-- ---- how many steps it made
+
+pub made-few : (a : ℕ) → madeBy a ≤ 1
+unfolding madeBy pick
+made-few a =
+    byCase (eqb a 0) (λ e. rw e (omega arith))
+    (λ e. byCase (eqb a 2) (λ f. rw (e, f) (omega arith)) (λ f. rw (e, f) (omega arith)))
+
+module _ (a : ℕ) (e : a ≡ 0) where
+  pub made-on : {k : ℕ} → k ≡ madeBy a → k ≡ 1
+  unfolding madeBy pick
+  made-on q = rw (q, e) refl
+
+  pub counted-on : (i : ℕ) (cs : List ℕ) {l : List ℕ} → l ≡ countedBy a i cs → l ≡ raised cs i
+  unfolding countedBy madeBy pick
+  counted-on i cs q = rw (q, e) refl
+
 -- a step that answers a, which is not `done`, is the last
 pub stopped-at : {s input : List ℕ} {x : Code} {budget : ℕ} {from c : Held} {left : ℕ} → Driving s input x budget from c left → overOf (c .numbers) (length (x .rows)) ≡ false
     → (left ≡ 0 → ⊥) → {a d v p q l n f i w t o y : ℕ} {cs rs g ta ts ch out : List ℕ}
     → after (stepped a (running d v p q l n f i w t o y)) cs rs g ta ts ch out ≡ stepOf x input c → (a ≡ 0 → ⊥)
     → {r : Answer} {k : ℕ} {m : Numbers} → r ≡ endedBy a → k ≡ madeBy a → m ≡ gathered d v p q l n f i w t o (eqb a halting) y
-    → ran r (budget - left + k) (held m cs rs g ta ts ch out) ≡ runOf budget 0 x input from
+    → ran r (budget - (left - k)) (held m cs rs g ta ts ch out) ≡ runOf budget 0 x input from
 unfolding endedBy madeBy pick
 stopped-at {s} {input} {x} {budget} {c = c} {left = left} run e z {a} {d} {v} {p} {q} {l} {n} {f} {i} {w} {t} {o} {y} b h er ek em =
     let m = running d v p q l n f i w t o y in
     byCase (eqb a 2)
-    (λ j. rw (er, ek, em, j) (halted-at run e z _ (as-answered (halted a m (eqb-true a 2 j)) b) refl refl))
+    (λ j. let u : budget - (left - 1) ≡ budget - left + 1 = omega (arith, run .within, z) in
+    rw (er, ek, em, ne-eqb a 0 h, j, u) (halted-at run e z _ (as-answered (halted a m (eqb-true a 2 j)) b) refl refl))
     (λ j. let b = as-answered (refused a m (eqb-false a 2 j)) b in
-    let u : budget - left + 0 ≡ budget - left = omega arith in
-    rw (er, ek, em, j, u) (refused-at run e z _ b (λ r. h (let k = went-whole s input x c (run .ready) e _ b r in omega (arith, r, k)))))
+    let u : budget - (left - 0) ≡ budget - left = omega arith in
+    rw (er, ek, em, ne-eqb a 0 h, j, u) (refused-at run e z _ b (λ r. h (let k = went-whole s input x c (run .ready) e _ b r in omega (arith, r, k)))))
 
-pub made-few : (a : ℕ) → madeBy a ≤ 1
-unfolding madeBy pick
-made-few a = byCase (eqb a 2) (λ e. rw e (omega arith)) (λ e. rw e (omega arith))
+-- and its counts
+pub counts-stopped-at : {s input : List ℕ} {x : Code} {budget : ℕ} {from c : Held} {left : ℕ} → Driving s input x budget from c left → overOf (c .numbers) (length (x .rows)) ≡ false
+    → {first cs : List ℕ} → Counting x input budget from first c cs left → c .numbers .halted ≡ false → c .numbers .position < length (x .rows)
+    → (getD (x .rows) (c .numbers .position) 0 ≡ 0 → ⊥) → (left ≡ 0 → ⊥) → (a : ℕ) (m : Numbers) {cs′ rs g ta ts ch out : List ℕ}
+    → after (stepped a m) cs′ rs g ta ts ch out ≡ stepOf x input c → (a ≡ 0 → ⊥)
+    → {last : List ℕ} → last ≡ countedBy a (c .numbers .position) cs → last ≡ runCountsOf budget x input from first
+unfolding countedBy madeBy pick
+counts-stopped-at {s} {input} {x} {c = c} run e i r h k z a m b u el =
+    byCase (eqb a 2)
+    (λ g. rw (el, ne-eqb a 0 u, g) (counts-halted-at i r h k z _ (as-answered (halted a m (eqb-true a 2 g)) b) refl refl))
+    (λ g. let b = as-answered (refused a m (eqb-false a 2 g)) b in
+    rw (el, ne-eqb a 0 u, g) (counts-refused-at i r h k z _ b (λ q. u (let w = went-whole s input x c (run .ready) e _ b q in omega (arith, q, w)))))
 
 -- ---- the numbers of a machine that is not halted, one by one
 
@@ -361,6 +476,10 @@ same-opened c e =
 pub open-at-first : {s input : List ℕ} {x : Code} {c : Held} (budget : ℕ) → ReadyToRun s input x c → c .numbers .halted ≡ false
     → Running s input x budget (opened c) (opened c) budget
 open-at-first {s} {input} {x} {c} budget h e = begin budget (subst (λ (d : Held). ReadyToRun s input x d) (same-opened c e) h)
+
+pub counts-from-first : (x : Code) (input : List ℕ) (budget : ℕ) (c : Held) (first cs : List ℕ) → c .numbers .halted ≡ false
+    → cs ≡ runCountsOf budget x input (opened c) first → cs ≡ runCountsOf budget x input c first
+counts-from-first x input budget c first cs e w = w ∙ ap (λ (d : Held). runCountsOf budget x input d first) (sym (same-opened c e))
 
 pub from-first : (x : Code) (input : List ℕ) (budget : ℕ) (c : Held) (r : Ran) → c .numbers .halted ≡ false
     → r ≡ runOf budget 0 x input (opened c) → r ≡ runOf budget 0 x input c

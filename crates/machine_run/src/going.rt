@@ -1,8 +1,8 @@
 // The steps of a patch that is read: one inner step after the other, until they end.
 ghost use mathlib.Core.Path.{_≡_};
 ghost use Rattle.machine_step.specs.Held.{held, code};
-ghost use Rattle.bridge.specs.Run.{ran, runOf};
-ghost use Rattle.machine_run.specs.Ready.{ReadyToRun, endedBy, madeBy};
+ghost use Rattle.bridge.specs.Run.{ran, runOf, runCountsOf};
+ghost use Rattle.machine_run.specs.Ready.{ReadyToRun, ReadyToCount, CanRaise, endedBy, madeBy, countedBy};
 use answers::run::Answer;
 use kind_table::row;
 use machine_numbers::numbers::DONE;
@@ -27,17 +27,30 @@ fn answer_of(a: u32) -> Answer
     Answer::Refused(a % NUMBERS, a / NUMBERS)
 }
 
-// How many steps it made: one that halts.
-fn halting(a: u32) -> u32
+// How many steps it made: one where it went on or halted, none where it is refused.
+fn made_by(a: u32) -> u32
     ensures { λ r. ⌜ r ≡ madeBy a ⌝ }
 {
+    if a == DONE {
+        return 1;
+    }
     if a == HALTED {
         return 1;
     }
     0
 }
 
-// Steps until the machine is finished, the budget is spent or a step is refused. A comment is passed, also when the budget is spent, and is no step.
+// The count of the op at this place, one more where a step of it that answers so was made.
+fn raise_made(tally: &mut [u64], at: usize, a: u32)
+    requires { ⌜ CanRaise (now tally) at ⌝ }
+    ensures { λ _. ⌜ now (tally .exit) ≡ countedBy a at (now (tally .entry)) ⌝ }
+{
+    if made_by(a) == 1 {
+        tally[at] += 1;
+    }
+}
+
+// Steps until the machine is finished, the budget is spent or a step is refused. Each step made raises the count of its op. A comment is passed, also when the budget is spent, and is no step.
 pub fn go(
     numbers: Numbers,
     rows: &[u8],
@@ -56,10 +69,11 @@ pub fn go(
     channel: &mut [u64],
     input: &[u64],
     output: &mut [u64],
+    tally: &mut [u64],
     budget: u32,
 ) -> Ended
-    requires { ⌜ ReadyToRun (now bytes) (now input) (code (now rows) (now counts) (now needs) (now payloads) (now partners) (now turns) (now marks) (now bytes)) (held numbers (now calls) (now refs) (now register) (now tape) (now table) (now channel) (now output)) ⌝ }
-    ensures { λ r. ⌜ ran (r .answer) (r .steps) (held (r .numbers) (now (calls .exit)) (now (refs .exit)) (now (register .exit)) (now (tape .exit)) (now (table .exit)) (now (channel .exit)) (now (output .exit))) ≡ runOf budget 0 (code (now (rows .entry)) (now (counts .entry)) (now (needs .entry)) (now (payloads .entry)) (now (partners .entry)) (now (turns .entry)) (now (marks .entry)) (now (bytes .entry))) (now (input .entry)) (held numbers (now (calls .entry)) (now (refs .entry)) (now (register .entry)) (now (tape .entry)) (now (table .entry)) (now (channel .entry)) (now (output .entry))) ⌝ }
+    requires { ⌜ ReadyToRun (now bytes) (now input) (code (now rows) (now counts) (now needs) (now payloads) (now partners) (now turns) (now marks) (now bytes)) (held numbers (now calls) (now refs) (now register) (now tape) (now table) (now channel) (now output)) × ReadyToCount (now rows) (now tally) budget ⌝ }
+    ensures { λ r. ⌜ (ran (r .answer) (r .steps) (held (r .numbers) (now (calls .exit)) (now (refs .exit)) (now (register .exit)) (now (tape .exit)) (now (table .exit)) (now (channel .exit)) (now (output .exit))) ≡ runOf budget 0 (code (now (rows .entry)) (now (counts .entry)) (now (needs .entry)) (now (payloads .entry)) (now (partners .entry)) (now (turns .entry)) (now (marks .entry)) (now (bytes .entry))) (now (input .entry)) (held numbers (now (calls .entry)) (now (refs .entry)) (now (register .entry)) (now (tape .entry)) (now (table .entry)) (now (channel .entry)) (now (output .entry)))) × (now (tally .exit) ≡ runCountsOf budget (code (now (rows .entry)) (now (counts .entry)) (now (needs .entry)) (now (payloads .entry)) (now (partners .entry)) (now (turns .entry)) (now (marks .entry)) (now (bytes .entry))) (now (input .entry)) (held numbers (now (calls .entry)) (now (refs .entry)) (now (register .entry)) (now (tape .entry)) (now (table .entry)) (now (channel .entry)) (now (output .entry))) (now (tally .entry))) ⌝ }
 {
     if numbers.halted {
         return Ended {
@@ -127,6 +141,7 @@ pub fn go(
                     ),
                 };
             }
+            let at = position;
             let a = machine_step::step::step(
                 &mut position,
                 &mut pointer,
@@ -157,11 +172,12 @@ pub fn go(
                 input,
                 output,
             );
+            raise_made(tally, at, a);
+            left -= made_by(a);
             if a != DONE {
-                let made = budget - left;
                 return Ended {
                     answer: answer_of(a),
-                    steps: made + halting(a),
+                    steps: budget - left,
                     numbers: Numbers::gather(
                         depth,
                         saved,
@@ -179,7 +195,6 @@ pub fn go(
                     ),
                 };
             }
-            left -= 1;
         }
     }
 }

@@ -4,18 +4,7 @@ use Prim.Native.Nat.{ℕ}
 use Rattle.machine_numbers.specs.declared.numbers.Numbers.{Numbers}
 use Rattle.machine_numbers.specs.Numbers.{Steered, OneList, Swapped, Taped, Told, OpAnswer}
 
--- the slices that a call is lent and may change
-pub record Slices : Type 0 where
-  pub register : List ℕ
-  pub tape : List ℕ
-  pub table : List ℕ
-  pub channel : List ℕ
-  pub output : List ℕ
-
-abbrev pub slices : List ℕ → List ℕ → List ℕ → List ℕ → List ℕ → Slices
-slices g t ts ch o = record { register = g; tape = t; table = ts; channel = ch; output = o }
-
--- the machine's numbers, its stacks, and those slices
+-- the machine's numbers, its stacks, and the slices that its steps may change
 pub record Held : Type 0 where
   pub numbers : Numbers
   pub calls : List ℕ

@@ -22,6 +22,8 @@ pub const PLACES: usize = 258;
 
 pub const OUTPUTS: usize = 4096;
 
+pub const COUNTS: usize = Machine::OPS + 2;
+
 pub const SAVED: usize = 256;
 
 pub const ROOM: usize = 65552;

@@ -4,7 +4,7 @@ mod list; // the bytes of a case
 mod tell; // what is said of a difference
 mod found; // what is found of a case
 mod state; // a machine
-mod slices; // the five slices of a run
+mod slices; // the six slices of a run
 mod run; // runs, fresh and from a state, and steps
 mod shape; // joins and flattenings
 

@@ -2,6 +2,7 @@
 use crate::found::Found;
 use crate::found::of_same;
 use crate::list::CELLS;
+use crate::list::COUNTS;
 use crate::list::ENTRIES;
 use crate::list::INPUTS;
 use crate::list::LANES;
@@ -101,6 +102,7 @@ fn start(
     table: &mut [u16],
     channel: &mut [u64],
     output: &mut [u64],
+    tally: &mut [u64],
 ) -> Ran {
     let budget = budget_of(case);
     if sort == FRESH {
@@ -113,15 +115,26 @@ fn start(
             channel,
             input,
             output,
+            tally,
             budget,
             mode,
         );
     }
     let m = machine_at(case, at);
     if sort == STEP {
-        return of_step(m.step(file, register, tape, table, channel, input, output));
+        return of_step(m.step(file, register, tape, table, channel, input, output, tally));
     }
-    m.run(file, register, tape, table, channel, input, output, budget)
+    m.run(
+        file,
+        register,
+        tape,
+        table,
+        channel,
+        input,
+        output,
+        tally,
+        budget,
+    )
 }
 
 // Lays its storage out, lends as much of it as the case says, runs, and compares.
@@ -133,6 +146,7 @@ fn same_run(tell: Tell, sort: u8, file: &[u8], case: &[u8]) -> bool {
     let mut table = [0u16; ENTRIES];
     let mut channel = [0u64; PLACES];
     let mut output = [0u64; OUTPUTS];
+    let mut tally = [0u64; COUNTS];
     inputs(case, 4, &mut input);
     let given = of_lanes(word(case, 4), &input);
     let cells = lay(case, at.tape, &mut tape);
@@ -140,6 +154,7 @@ fn same_run(tell: Tell, sort: u8, file: &[u8], case: &[u8]) -> bool {
     let entries = lay_table(case, at.table, &mut table);
     let ring = lay(case, at.channel, &mut channel);
     let room = lay(case, at.output, &mut output);
+    let ops = lay(case, at.tally, &mut tally);
     let r = start(
         sort,
         case,
@@ -151,6 +166,7 @@ fn same_run(tell: Tell, sort: u8, file: &[u8], case: &[u8]) -> bool {
         &mut table[..entries],
         &mut channel[..ring],
         &mut output[..room],
+        &mut tally[..ops],
     );
     let answer = at_answer(case, sort, at.end);
     same_answer(tell, case, answer, r)
@@ -163,6 +179,7 @@ fn same_run(tell: Tell, sort: u8, file: &[u8], case: &[u8]) -> bool {
             &table,
             &channel,
             &output,
+            &tally,
         )
 }
 

@@ -1,7 +1,8 @@
-// The five slices of a run: where a case has them, laid down as they are given, and compared with what is expected of them.
+// The six slices of a run: where a case has them, laid down as they are given, and compared with what is expected of them.
 ghost use Prim.Native.Nat.{_≤_};
 ghost use Rattle.io.specs.Counts.{Counts};
 use crate::list::CELLS;
+use crate::list::COUNTS;
 use crate::list::ENTRIES;
 use crate::list::LANES;
 use crate::list::OUTPUTS;
@@ -17,13 +18,14 @@ use crate::tell::Tell;
 use streams::part::of_lanes;
 use streams::part::of_places;
 
-// Where each of the five begins, and the place after them.
+// Where each of the six begins, and the place after them.
 pub struct Places {
     pub tape: usize,
     pub register: usize,
     pub table: usize,
     pub channel: usize,
     pub output: usize,
+    pub tally: usize,
     pub end: usize,
 }
 
@@ -34,13 +36,15 @@ pub fn given_at(case: &[u8]) -> Places {
     let table = after_slice(case, register, LANES);
     let channel = after_slice(case, table, ENTRIES);
     let output = after_slice(case, channel, PLACES);
-    let end = after_slice(case, output, OUTPUTS);
+    let tally = after_slice(case, output, OUTPUTS);
+    let end = after_slice(case, tally, COUNTS);
     Places {
         tape,
         register,
         table,
         channel,
         output,
+        tally,
         end,
     }
 }
@@ -51,13 +55,15 @@ pub fn expected_at(case: &[u8], tape: usize) -> Places {
     let table = after_contents(case, register);
     let channel = after_contents(case, table);
     let output = after_contents(case, channel);
-    let end = after_contents(case, output);
+    let tally = after_contents(case, output);
+    let end = after_contents(case, tally);
     Places {
         tape,
         register,
         table,
         channel,
         output,
+        tally,
         end,
     }
 }
@@ -167,7 +173,7 @@ fn same_lent(tell: Tell, what: &[u8], case: &[u8], given: usize, at: usize, came
     same_slice(tell, what, case, at, &came[..n])
 }
 
-// Whether the five are as expected from a place on.
+// Whether the six are as expected from a place on.
 pub fn same_slices(
     tell: Tell,
     case: &[u8],
@@ -177,6 +183,7 @@ pub fn same_slices(
     table: &[u16; ENTRIES],
     channel: &[u64; PLACES],
     output: &[u64; OUTPUTS],
+    tally: &[u64; COUNTS],
 ) -> bool {
     let given = given_at(case);
     let at = expected_at(case, expected);
@@ -192,4 +199,5 @@ pub fn same_slices(
             channel,
         )
         && same_lent(tell, b"output", case, given.output, at.output, output)
+        && same_lent(tell, b"count of op", case, given.tally, at.tally, tally)
 }

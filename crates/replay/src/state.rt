@@ -1,8 +1,9 @@
-// The machine of a case: twelve numbers, the saved calls and the saved pointers.
+// The machine of a case: thirteen numbers, its step total, the saved calls and the saved pointers.
 ghost use Prim.Native.Nat.{_<_, _≤_};
 ghost use Rattle.basics.specs.Limits.{depth};
 use crate::list::SAVED;
 use crate::list::after;
+use crate::list::value;
 use crate::list::word;
 use crate::list::word_on;
 use crate::tell::Tell;
@@ -19,9 +20,13 @@ fn given(n: usize) -> usize
     n
 }
 
-// Where the saved calls and the saved pointers of the machine at a place begin, and the place after them.
+// The step total of the machine at a place; where its saved calls and its saved pointers begin, and the place after them.
+fn total_at(case: &[u8], at: usize) -> u64 {
+    value(case, after(case, at, 52))
+}
+
 fn at_calls(case: &[u8], at: usize) -> usize {
-    after(case, at, 52)
+    after(case, at, 60)
 }
 
 fn at_refs(case: &[u8], at: usize) -> usize {
@@ -151,6 +156,7 @@ pub fn machine_at(case: &[u8], at: usize) -> Machine {
         calls: calls,
         refs: refs,
         numbers: numbers,
+        total: total_at(case, at),
     }
 }
 
@@ -217,6 +223,7 @@ pub fn same_machine(tell: Tell, case: &[u8], at: usize, m: Machine) -> bool {
     let calls = m.calls;
     let refs = m.refs;
     same_numbers(tell, numbers_at(case, at), came)
+        && tell.same(b"step total", total_at(case, at) as usize, m.total as usize)
         && same_stack(
             tell,
             b"a saved call",

@@ -1,10 +1,14 @@
 // The runner: a patch on standard input, checked and run from fresh with no input values, 4,096 cells, room for 4,096 outputs and a budget of
-// 100,000 steps; with the argument --by-mark in the other call mode. It prints the check's number and place, the run's number, steps and place, and the outputs; of a bad file `load`, its number
-// and place alone.
+// 100,000 steps; with the argument --by-mark in the other call mode. It prints the check's number and place, the run's number, steps and place, the outputs,
+// and place and count of the ten busiest ops; of a bad file `load`, its number and place alone.
 use answers::check::Verdict;
 use answers::run::number_of;
 use answers::run::place_of;
+use busy::busiest::Busy;
+use busy::busiest::busiest;
 use machine::machine::Machine;
+use patch_reader::reader::read_patch;
+use streams::part::of_lanes;
 use streams::print::end_line;
 use streams::print::lanes;
 use streams::print::number;
@@ -24,7 +28,22 @@ fn show_answer(word: &[u8], n: usize, place: usize) {
     end_line();
 }
 
-fn run(file: &[u8], mode: u32) {
+// Place and count of each, the busiest first; the word alone if there is none.
+fn show_busy(b: Busy) {
+    let ops = b.ops;
+    let mut i: usize = 0;
+    io::write_all(1, b"busy");
+    while i < 10 && i < b.n {
+        let op = ops[i];
+        number(op.place);
+        number(op.count as usize);
+        i += 1;
+    }
+    end_line();
+}
+
+// The counts are one for each op of the file.
+fn run(file: &[u8], mode: u32, tally: &mut [u64]) {
     let mut register = [0u64; Machine::LANES];
     let mut tape = [0u64; CELLS];
     let mut table = [0u16; Machine::MARKS];
@@ -39,6 +58,7 @@ fn run(file: &[u8], mode: u32) {
         &mut channel,
         &input,
         &mut output,
+        tally,
         BUDGET,
         mode,
     );
@@ -52,6 +72,7 @@ fn run(file: &[u8], mode: u32) {
     io::write_all(1, b"out");
     lanes(&output, 0, m.written);
     end_line();
+    show_busy(busiest(tally));
 }
 
 fn check_and_run(file: &[u8], mode: u32) {
@@ -65,7 +86,9 @@ fn check_and_run(file: &[u8], mode: u32) {
         answers::check::number_of(v),
         answers::check::place_of(v),
     );
-    run(file, mode);
+    let mut tally = [0u64; Machine::OPS];
+    let ops = of_lanes(read_patch(file).ops, &tally);
+    run(file, mode, &mut tally[..ops]);
 }
 
 // The one argument that the runner takes.

@@ -1,9 +1,9 @@
 // Runs cases on the real code and prints each answer: document 01's own, and others that its rules decide. The cases and the lines that they
 // must give are in crates/test_cases/cases.txt; crates/test_cases/make.py makes this program's standard input and output of it.
 //
-// A case is a head of 16 bytes, then its name, its patch and its input values. The head: what is done (0 the check and a run, 1 joining, 2
-// flattening) and 16 times the call mode, the name's length, and by two bytes each the patch's length, the number of input values, of cells, of outputs or of bytes and bodies
-// that there is room for, and of lanes that the register has room for; the budget by four.
+// A case is a head of 18 bytes, then its name, its patch and its input values. The head: what is done (0 the check and a run, 1 joining, 2
+// flattening, 3 as 0 and the counts) and 16 times the call mode, the name's length, and by two bytes each the patch's length, the number of input values, of cells, of outputs or of
+// bytes and bodies that there is room for, and of lanes that the register has room for; the budget by four; and the number of counts by two.
 use answers::flatten::Flattened;
 use answers::join::Joined;
 use answers::run::number_of;
@@ -16,8 +16,11 @@ use machine::machine::Machine;
 use streams::part::of_bytes;
 use streams::part::of_lanes;
 use streams::print::end_line;
+use streams::print::lane;
 use streams::print::lanes;
 use streams::print::number;
+
+const HEAD: usize = 18;
 
 fn read_value() -> u64 {
     let mut bytes = [0u8; 8];
@@ -72,6 +75,14 @@ fn show_out(output: &[u64; 64], n: usize) {
     lanes(output, 0, n);
 }
 
+// The step total, and the counts of n ops.
+fn show_counts(total: u64, tally: &[u64; Machine::OPS], n: usize) {
+    io::write_all(1, b" total");
+    lane(total);
+    io::write_all(1, b" counts");
+    lanes(tally, 0, n);
+}
+
 fn show_check(file: &[u8]) {
     let v = patch_check::check::check(file);
     io::write_all(1, b" check");
@@ -80,19 +91,21 @@ fn show_check(file: &[u8]) {
 }
 
 // Reads the input values, and runs the patch in a call mode with the storage that is lent.
-fn show_run(head: &[u8; 16], file: &[u8], mode: u32) {
+fn show_run(head: &[u8; HEAD], file: &[u8], mode: u32) {
     let mut register = [0u64; Machine::LANES];
     let mut tape = [0u64; 4096];
     let mut table = [0u16; Machine::MARKS];
     let mut channel = [0u64; Machine::CHANNEL];
     let mut input = [0u64; 16];
     let mut output = [0u64; 64];
+    let mut tally = [0u64; Machine::OPS];
     let given = u16_at(head, 4);
     read_values(&mut input, given);
     let lent = of_lanes(u16_at(head, 10), &register);
     let cells = of_lanes(u16_at(head, 6), &tape);
     let inputs = of_lanes(given, &input);
     let room = of_lanes(u16_at(head, 8), &output);
+    let ops = of_lanes(u16_at(head, 16), &tally);
     let budget = u32_at(head, 12);
     let r = Machine::run_fresh(
         file,
@@ -102,11 +115,13 @@ fn show_run(head: &[u8; 16], file: &[u8], mode: u32) {
         &mut channel,
         &input[..inputs],
         &mut output[..room],
+        &mut tally[..ops],
         budget as u32,
         mode,
     );
     let answer = r.answer;
-    let m = r.machine.numbers;
+    let left = r.machine;
+    let m = left.numbers;
     io::write_all(1, b" run");
     number(number_of(answer));
     number(r.steps as usize);
@@ -118,6 +133,9 @@ fn show_run(head: &[u8; 16], file: &[u8], mode: u32) {
     number(m.length);
     show_left(&input, m.taken, inputs);
     show_out(&output, m.written);
+    if head[0] % 16 == 3 {
+        show_counts(left.total, &tally, ops);
+    }
 }
 
 fn show_answer(word: &[u8], n: usize, place: usize) {
@@ -150,7 +168,7 @@ fn show_bytes(out: &[u8; 64], n: usize) {
     }
 }
 
-fn show_join(head: &[u8; 16], file: &[u8]) {
+fn show_join(head: &[u8; HEAD], file: &[u8]) {
     let mut out = [0u8; 64];
     let room = of_bytes(u16_at(head, 8), &out);
     match joining::join::join(file, &mut out[..room]) {
@@ -182,7 +200,7 @@ fn show_bodies(numbers: &[u32; 64], firsts: &[u32; 64], counts: &[u32; 64], n: u
     }
 }
 
-fn show_flatten(head: &[u8; 16], file: &[u8]) {
+fn show_flatten(head: &[u8; HEAD], file: &[u8]) {
     let mut out = [0u8; 64];
     let mut numbers = [0u32; 64];
     let mut firsts = [0u32; 64];
@@ -211,7 +229,7 @@ fn show_flatten(head: &[u8; 16], file: &[u8]) {
 }
 
 // Reads the patch, and works it.
-fn work(head: &[u8; 16], file: &mut [u8]) {
+fn work(head: &[u8; HEAD], file: &mut [u8]) {
     io::read_full(0, file);
     match head[0] % 16 {
         1 => show_join(head, file),
@@ -226,8 +244,8 @@ fn work(head: &[u8; 16], file: &mut [u8]) {
 
 // One case, and whether there was one.
 fn case() -> bool {
-    let mut head = [0u8; 16];
-    if io::read_full(0, &mut head) < 16 {
+    let mut head = [0u8; HEAD];
+    if io::read_full(0, &mut head) < HEAD {
         return false;
     }
     show_name(wide_byte(head[1]));

@@ -21,8 +21,9 @@ feltcairn-run-fresh-spec =
     (λ c. search needs)
     (λ c. search needs)
     (λ c. search needs)
+    (λ c. search needs)
     (λ c.
     let l = c .before .before .before .before .before in
     let n = l .before .before in
-    let r = n .before .before .before .before .before .before .before .before .before .before .before .before in
+    let r = n .before .before .before .before .before .before .before .before .before .before .before .before .before .before in
     rw (← r .run-fresh .ensures, c .before .before .tell .ensures, n .number-of .ensures, l .before .place-of .ensures, l .lane-of .ensures) refl))

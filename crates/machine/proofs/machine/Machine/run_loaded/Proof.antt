@@ -9,14 +9,17 @@ use Rattle.machine.proofs.machine.Machine.run_loaded.Tie as tie
 
 find-partners-requires : tie.Need-find-partners-requires
 find-partners-requires c κs =
-    let h = c .before .before .before .before .before .before .before .before .before .before .before .before .before .before .pre in
+    let a′ = c .before .before .before .before .before .before .before .before .before .before .before .before .before in
+    let a = a′ .before .before in
+    let h = a .pre .0 in
     (rows-few _ _ _ _ _ h, search needs, search needs, search needs, marks-few _ _ _ _ _ h)
 
 run-read-requires : tie.Need-run-read-requires
 run-read-requires c κs =
-    let p = c .before .before .before .before .before .before .before .before .before in
-    let a = p .before .before .before .before .before .before .before .before .before .before .before .before .before .before .before in
-    is-read _ _ _ _ _ (a .pre) _ _ _ _ _ _ _ (p .find-partners .ensures) refl
+    let p = c .before .before .before .before .before .before .before .before .before .before in
+    let a′ = p .before .before .before .before .before .before .before .before .before .before .before .before .before in
+    let a = a′ .before .before .before in
+    (is-read _ _ _ _ _ (a .pre .0) _ _ _ _ _ _ _ (p .find-partners .ensures) refl, a .pre .1)
 
 pub run-loaded-spec : {M : Type 1} → statement M
 run-loaded-spec =
@@ -32,6 +35,7 @@ run-loaded-spec =
     (λ c. search needs)
     (λ c. let p = c .before .before .before .find-partners .ensures .1 .1 in omega (arith, end-long _ _ _ _ (p .0) (p .1)))
     run-read-requires
+    (λ c. search needs)
     (λ c. search needs)
     (λ c. search needs)
     (λ c. search needs)

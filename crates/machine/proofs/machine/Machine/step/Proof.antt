@@ -14,10 +14,18 @@ step-spec =
     (λ c. search needs)
     (λ c. search needs)
     (λ c. search needs)
-    (λ c. none-made _ _ _ _ (c .before .before .before .before .before .before .before .before .before .before .before .before .before .run .ensures) (c .if1 .taken))
+    (λ c. search needs)
+    (λ c.
+    let r′ = c .before .before .before .before .before .before .before .before .before .before .before .before .before in
+    let r = r′ .before .before in
+    none-made _ _ _ _ (r .run .ensures) (c .if1 .taken))
     (λ c. search needs)
     (λ c. search needs)
     (λ c. search needs)
     (λ c. search needs)
     (λ c. search needs)
-    (λ c. one-made _ _ _ _ (c .before .before .before .before .before .before .before .before .before .before .before .before .before .run .ensures) (c .if1 .left)))
+    (λ c. search needs)
+    (λ c.
+    let r′ = c .before .before .before .before .before .before .before .before .before .before .before .before .before in
+    let r = r′ .before .before in
+    one-made _ _ _ _ (r .run .ensures) (c .if1 .left)))

@@ -1,0 +1,4 @@
+pub mod Sums
+pub mod Tally
+pub mod Busiest
+pub mod Order
