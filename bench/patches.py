@@ -5,10 +5,10 @@ import struct
 import sys
 
 sys.path.insert(0, os.path.join(os.path.dirname(os.path.abspath(__file__)), "..", "compare"))
-from generate import from_the_last, in_order, op
-from model01 import (ADD, ADDF, ALLOC, AND, ARSH, BAND, BNOT, BOR, BXOR, CALL, COMMENT, DEC, DEREF, DIV, DIVF, ELSE, END, FUNCTION, GET, GEZ, GEZF, IF,
-                     INC, INDEX, LOAD, LRSH, LSH, MOVE, MUL, MULF, NAND, NEG, NEGF, NOT, OFFSET, OR, PUT, REFER, REM, REMF, RETURN, SET,
-                     SETF, STORE, SUB, SUBF, SWAP, TOFLOAT, TOINT, WHERE, WHILE)
+from generate import ADDS, ROOT, from_the_last, in_order, op
+from model01 import (ADD, ADDF, ALLOC, AND, ARSH, BAND, BNOT, BOR, BXOR, CALL, COMMENT, DEC, DEREF, DIV, DIVF, ELSE, END, FREE, FUNCTION, GET, GEZ,
+                     GEZF, IF, INC, INDEX, INFINITY, LOAD, LRSH, LSH, MOVE, MUL, MULF, NAND, NEG, NEGF, NOT, OFFSET, OR, PEEK, POKE, PUT, REFER, REM, REMF,
+                     RETURN, SET, SETF, STORE, SUB, SUBF, SWAP, TOFLOAT, TOINT, WHERE, WHILE)
 
 NAN = 0x7FF8000000000000
 CELLS = 8192
@@ -229,6 +229,33 @@ def modes():
     for name, ops in ("calls and returns", calls()), ("routines below", below()):
         yield name, ops, [], 1
         yield name + BY_MARK, ops, [], 1
+
+
+VALUES, TURNS = 64, 200
+WITHOUT = ", without"
+
+
+def piped(least, most, takes, call):
+    """Values go through the channel: of each of 64 it and those after it, so many as are taken, are sent, and what comes back is stored, 200 times over."""
+    r = random.Random(6)
+    values = [r.randrange(least, most) for _ in range(VALUES + takes - 1)]
+    each = [op(LOAD, 1), op(POKE), op(MOVE, 1)] * takes + [call, op(PEEK), op(MOVE, VALUES), op(STORE, 1), op(MOVE, 1 - takes - VALUES)]
+    return spread(SET, values, 8) + loop(TURNS, [op(MOVE, 8)] + each * VALUES + [op(MOVE, -8 - VALUES)])
+
+
+def through():
+    """Calls through the channel (02, ask 9), each beside the same patch with another op in their place. There is no input and no output."""
+    normal, subnormal = (1 << 52, INFINITY), (1, 1 << 52)
+    yield "roots", piped(*normal, 1, ROOT), [], 0
+    yield "roots of subnormals", piped(*subnormal, 1, ROOT), [], 0
+    yield "roots" + WITHOUT, piped(*normal, 1, op(FREE)), [], 0
+    yield "sums", piped(*normal, 2, ADDS), [], 0
+    yield "sums" + WITHOUT, piped(*normal, 2, op(PEEK)), [], 0
+
+
+# a call of each row, the row that has none, and the op that stands there in its place
+MADE = {"roots": ("root", "roots" + WITHOUT, "Free"), "roots of subnormals": ("root of a subnormal", "roots" + WITHOUT, "Free"),
+        "sums": ("sum", "sums" + WITHOUT, "Peek")}
 
 
 NAMES = {ADD: "add", SUB: "sub", MUL: "mul", DIV: "div", REM: "rem", NAND: "nand", BAND: "bit and", BOR: "bit or", BXOR: "xor", BNOT: "bit not",

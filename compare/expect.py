@@ -20,7 +20,7 @@ sys.path.insert(0, os.path.join(HERE, "..", "tools"))
 import command
 import generate
 import lists
-from model01 import AND, CALL, DEREF, DIV, GET, OR, PEEK, REM
+from model01 import AND, CALL, DEREF, DIV, FFI, GET, OR, PEEK, REM
 
 AGREE = "agree with the Rust to the end"
 PORT = "answers of the port alone (file, 37, 40, check)"
@@ -53,6 +53,8 @@ def name(sort, number, verdict, kind):
         return "device before lane"
     if number == 22 and verdict == "went" and kind in (AND, OR):
         return "cell skipped"
+    if number == 33 and kind == FFI:
+        return "too few values" if verdict == "panic" else None
     if number == 32 and verdict in ("went", "err", "panic") and kind in (CALL, DEREF):
         # a step further the Rust may find a function that is not there, or a negative cell
         return "stack limit"

@@ -17,13 +17,16 @@ sys.path.insert(0, os.path.join(os.path.dirname(os.path.abspath(__file__)), ".."
 import command
 import model01
 from lists import CHECK, FLATTEN, FRESH, JOIN, RUN, RUNS, SLICES, STEP, Answer, Case, Machine, record, write, write_machine
-from model01 import (ALLOC, AND, BY_MARK, BY_TABLE, CALL, CELL_OPS, COMMENT, COUNTED, DEREF, ELSE, END, FREE, FUNCTION, GET, GEZ, IF,
-                     LANE_OPS, LOAD, MOST, MOVE, OFFSET, PEEK, POKE, PUT, REFER, RETURN, SET, SETF, STORE, WHERE, WHILE, WORD)
+from model01 import (ALLOC, AND, BY_MARK, BY_TABLE, CALL, CELL_OPS, COMMENT, COUNTED, DEREF, ELSE, END, FFI, FREE, FUNCTION, GET, GEZ, IF,
+                     INFINITY, LANE_OPS, LEAST, LOAD, MOST, MOVE, NAN, OFFSET, PEEK, POKE, PUT, REFER, RETURN, SET, SETF, SQUARE_ROOT, STORE, SUM,
+                     WHERE, WHILE, WORD)
 
 sys.setrecursionlimit(20000)
 EMPTY = [FUNCTION, CALL, RETURN, WHILE, IF, ELSE, END, WHERE, DEREF, REFER, ALLOC, FREE, PEEK, POKE]
 PLAIN = [WHERE, DEREF, REFER, ALLOC, FREE, PEEK, POKE]
+# those that 01 carries; FFI Call came with 02, ask 9, and has cases of its own
 KINDS = sorted(set(range(40)) | set(range(256, 268)) | {275, 276})
+CARRIED = KINDS + [FFI]
 UNBRACKETED = [k for k in KINDS if k not in (FUNCTION, WHILE, IF, ELSE, END, CALL, RETURN)]
 FLOAT_KINDS = list(range(259, 268))
 INTEGERS = [0, 0, 0, 1, 1, 1, 2, 3, 4, 5, 7, 10, 63, 64, 65, 255, 256, 1000, 99_999, 100_000, 1 << 31, 1 << 32, (1 << 32) - 1,
@@ -38,14 +41,14 @@ TAPES = [0, 1, 2, 4, 8, 16, 32, 32, 64, 64, 64, 200]
 
 
 def op(kind, *held):
-    """A record from what an op holds: values of a Set, a count, a Move's way, an Offset's two, a mode, a comment's bytes."""
+    """A record from what an op holds: values of a Set, a count, a Move's way, an Offset's two, a mode, a binding, a comment's bytes."""
     if kind in (SET, SETF):
         return record(kind, struct.pack("<%dQ" % len(held), *[v & WORD for v in held]))
     if kind == MOVE:
         return record(kind, struct.pack("<q", held[0]))
     if kind == OFFSET:
         return record(kind, struct.pack("<QI", held[0] & WORD, held[1]))
-    if kind in (GET, PUT):
+    if kind in (GET, PUT, FFI):
         return record(kind, struct.pack("<H", held[0]))
     if kind == COMMENT:
         return record(kind, held[0] if held else b"")
@@ -174,11 +177,12 @@ ALPHABET = [
     op(model01.ADD, 1), op(model01.DIV, 2), op(AND, 1), op(model01.SWAP, 1), op(model01.DEC, 1), op(GEZ, 1), op(GET, 0), op(GET, 1),
     op(PUT, 0), op(PUT, 1), op(ALLOC), op(PEEK), op(POKE), op(COMMENT, b"a"), op(SETF, 0x3FF8000000000000),
 ]
+EVERY = ALPHABET + [op(FFI, SQUARE_ROOT), op(FFI, SUM)]
 
 
 def exhaustive():
     for n in range(4):
-        for ops in itertools.product(ALPHABET, repeat=n):
+        for ops in itertools.product(EVERY, repeat=n):
             data = b"".join(ops)
             yield fresh(data, tape=3, inputs=(32, 305, 65), room=3, budget=20)
             yield checking(data)
@@ -437,6 +441,66 @@ class Maker:
         if r.random() < 0.02 and reach < len(c.tape):
             c.tape[r.randrange(reach, len(c.tape))] = 1 + r.randrange(5)
             m.counted, c.style = 0, "lent cells not zero"
+        return c
+
+    def channelled(self):
+        """A patch that sends values, calls on them and takes them back, among other ops, in a loop or a function at times."""
+        r = self.r
+        out, sent = [op(LOAD, 8)] * (r.random() < 0.7), 0
+        self.functions = self.saved = self.sent = 0
+        for _ in range(r.choice([1, 2, 4, 8, 12, 20])):
+            pick = r.random()
+            if pick < 0.3:
+                number = r.randrange(2)
+                if sent <= number and r.random() < 0.8:
+                    out += [op(SETF, self.value(True)), op(POKE)] * (1 + number - sent)
+                    sent = 1 + number
+                out.append(op(FFI, number))
+                sent = max(0, sent - number)
+            elif pick < 0.5:
+                out += [op(SETF, self.value(True)), op(POKE)]
+                sent += 1
+            elif pick < 0.6:
+                out.append(op(POKE))
+                sent += 1
+            elif pick < 0.75 and (sent or r.random() < 0.1):
+                out += [op(PEEK)] + [op(PUT, 0)] * (r.random() < 0.6)
+                sent -= sent > 0
+            else:
+                out.append(self.steady(1, True)[0] if r.random() < 0.8 else self.make(r.choice(UNBRACKETED), 1024, True))
+        pick = r.random()
+        if pick < 0.15:
+            out = [op(SET, r.randrange(4)), op(STORE, 1), op(WHILE)] + out + [op(LOAD, 1), op(model01.DEC, 1), op(STORE, 1), op(END)]
+        elif pick < 0.3:
+            out = [op(SET, 0), op(CALL)] * r.randint(1, 2) + [op(RETURN), op(FUNCTION)] + out + [op(RETURN), op(END)]
+        elif pick < 0.4:
+            out = [op(SET, r.randrange(2)), op(IF)] + out + [op(ELSE), op(FFI, r.randrange(2)), op(END)]
+        return b"".join(out)
+
+    def with_calls(self, data):
+        """The patch with a few calls among its ops."""
+        ops = self.split([data])
+        for _ in range(self.r.randint(1, 4)):
+            ops.insert(self.r.randint(0, len(ops)), op(FFI, self.r.randrange(2)))
+        return b"".join(ops)
+
+    def in_a_ring(self, data):
+        """A run of the patch from a state with floats waiting in its channel."""
+        r = self.r
+        c = state(data, **self.sizes())
+        m = c.machine
+        m.position = r.choice([0, 0, r.randint(0, op_count(data))])
+        m.counted = r.choice([0, 30_000, 100_000])
+        m.lanes = r.choice([0, 1, 1, 4, 1024])
+        for i in range(4):
+            c.register[i] = self.value(True)
+        m.first = r.choice([0, 1, 100, 200, 253, 254, 255])
+        m.waiting = r.choice([0, 1, 1, 2, 2, 3, 3, 5, 9, 254, 255, 256])
+        for k in range(m.waiting):
+            if k < 6 or k > m.waiting - 4:
+                c.channel[(m.first + k) % 256] = self.value(True) if r.random() < 0.8 else r.getrandbits(63)
+        self.dirt(c.channel, 0.5)
+        c.channel += [self.value()] * r.choice([0, 0, 0, 1])
         return c
 
     def routine(self, nest=0):
@@ -727,6 +791,12 @@ def miscounted(c, r):
 
 
 def randoms(seed, count):
+    """Random cases; and for each eight of them one more, or its twins, with calls through the channel."""
+    yield from with_counts(seed, count)
+    yield from piped(seed, count // 8)
+
+
+def with_counts(seed, count):
     """Random cases with counts; and beside them some whose step total leaves few steps, and some whose counts are no state's."""
     r = random.Random("counts %d" % seed)
     for i, c in enumerate(uncounted(seed, count)):
@@ -1576,6 +1646,291 @@ def tallies():
     yield from raised()
 
 
+# ---- calls through the channel (02, ask 9)
+
+def halfway(q, odd):
+    """The floats from 1 to 2, or if odd from 2 to 4, beside the square of a middle between floats: that of q and q + 1, whole numbers of 53 digits."""
+    below = (q * q + q) >> 52 + odd
+    return [(1023 + odd << 52) + m - (1 << 52) for m in (below, below + 1) if 1 << 52 <= m < 1 << 53]
+
+
+# zeros; squares and their neighbours; what is no square; the largest; infinities; what is negative
+RADICANDS = [0, LEAST, 0x3FF0000000000000, 0x4010000000000000, 0x4022000000000000, 0x3FD0000000000000, 0x4330000000000000, 0x4008000000000000,
+             0x3FEFFFFFFFFFFFFF, 0x3FF0000000000001, 0x400FFFFFFFFFFFFF, 0x4010000000000001, 0x4021FFFFFFFFFFFF, 0x4022000000000001,
+             0x4000000000000000, 0x3FE0000000000000, 0x3FB999999999999A, 0x3FD5555555555555, 0x432FFFFFFFFFFFFF, 0x7FE0000000000000,
+             0x7FEFFFFFFFFFFFFF, 0x7FDFFFFFFFFFFFFF, INFINITY, INFINITY + LEAST, 0xBFF0000000000000, 0xC010000000000000, LEAST + 1,
+             0x800FFFFFFFFFFFFF, 0x8010000000000000, 0xFFEFFFFFFFFFFFFF]
+# the subnormals' ends and between; the least that are none
+SMALL = [1, 2, 3, 4, 5, 9, 0x1234, 1 << 26, (1 << 26) + 1, 1 << 51, (1 << 51) + 1, (1 << 52) - 1, 1 << 52, (1 << 52) + 1, (1 << 53) - 1, 1 << 53]
+NANS = [NAN, NAN + LEAST, INFINITY + 1, INFINITY + LEAST + 1, 0x7FF4000000000123, 0xFFF8000000000001, LEAST - 1, WORD]
+HARD = [v for q in ((1 << 52) + 1, (1 << 53) - 2, 0x16A09E667F3BCC, 0x16A09E667F3BCD, 0x1921FB54442D18, 0x15555555555555, 0x1FFFFFF0000001)
+        for odd in (0, 1) for v in halfway(q, odd)]
+# sums: exact, rounded to even both ways, a zero's sign, past the largest, NaNs, subnormals
+ADDENDS = [(0x3FF8000000000000, 0x4002000000000000), (0x3FF0000000000000, 0x3CA0000000000000), (0x3FF0000000000001, 0x3CA0000000000000),
+           (0x3FF0000000000000, 0x3CA0000000000001), (0x3FB999999999999A, 0x3FC999999999999A), (LEAST, LEAST), (LEAST, 0), (0, 0),
+           (0x3FF0000000000000, 0xBFF0000000000000), (0x7FEFFFFFFFFFFFFF, 0x7FEFFFFFFFFFFFFF), (0xFFEFFFFFFFFFFFFF, 0xFFEFFFFFFFFFFFFF),
+           (0x7FEFFFFFFFFFFFFF, 0x7C90000000000000), (0x7FEFFFFFFFFFFFFF, 0x7C8FFFFFFFFFFFFF), (INFINITY, INFINITY + LEAST),
+           (INFINITY + LEAST, INFINITY), (INFINITY, INFINITY), (INFINITY + LEAST, 0xBFF0000000000000), (INFINITY, 0xFFEFFFFFFFFFFFFF), (1, 1), (1, LEAST + 1),
+           (0x0010000000000000, 0x8000000000000001), (0x000FFFFFFFFFFFFF, 1), (NAN, 0x3FF0000000000000), (0x3FF0000000000000, NAN + LEAST),
+           (0x7FF4000000000123, 0xFFF8000000000001), (0xFFF8000000000001, 0x7FF4000000000123), (WORD, INFINITY), (0x4340000000000000, 0x3FF0000000000000)]
+ROOT, ADDS = op(FFI, SQUARE_ROOT), op(FFI, SUM)
+SQUARE, OTHER, THIRD = 0x4019000000000000, 0x4002000000000000, 0x4028800000000000
+
+
+def ringed(data, values, first=0, more=0, **numbers):
+    """A state with these values waiting in the channel from its place `first` on. The places beside them hold something too, and so do those, if there
+    are more than a channel has."""
+    c = state(data, tape=2, room=8)
+    c.machine.first, c.machine.waiting = first, len(values)
+    for name, v in numbers.items():
+        setattr(c.machine, name, v)
+    for at in (first - 1, first - 2, first + len(values), first + len(values) + 1):
+        c.channel[at % 256] = 0x4059000000000000 + at % 256
+    for k, v in enumerate(values):
+        c.channel[(first + k) % 256] = v
+    c.channel += [0x4069000000000000] * more
+    c.register[:2] = [9, 8]
+    return c
+
+
+def waiting(n):
+    """So many values: 6.25, 2.25 and 12.25, and the last three of many are other squares; between them zeros."""
+    last = [0x4090000000000000, 0x40A2000000000000, 0x40B0000000000000]
+    values = [SQUARE, OTHER, THIRD][:n] + [0] * (n - 3)
+    return values[:-3] + last if n > 8 else values
+
+
+def in_rings():
+    """Both calls on rings of every length that matters, from places where they wrap and do not; then what the channel gives in which order."""
+    for call in (ROOT, ADDS):
+        for n in (0, 1, 2, 3, 4, 254, 255, 256):
+            for i, first in enumerate((0, 1, 100, 253, 254, 255)):
+                c = ringed(call, waiting(n), first, more=2 * (i % 3 == 2))
+                yield stepped(c) if (n + i) % 2 else c
+        for n in (1, 2, 3, 255, 256):
+            for first in (0, 254):
+                yield ringed(call + (op(PEEK) + op(PUT, 0)) * 3, waiting(n), first)
+                yield ringed(call + op(POKE) * 2, waiting(n), first)
+                yield ringed(op(PEEK) + call + op(POKE) + op(POKE) + op(PEEK), waiting(n), first)
+    # as often as values wait, and once more: round the ring, and down to the last sum
+    for n, first in ((1, 0), (2, 255), (5, 253), (9, 0)):
+        yield ringed(ROOT * (n + 1), waiting(n), first)
+        yield ringed(ADDS * (n + 1), waiting(n), first)
+    for first in (0, 128, 255):
+        yield ringed(ADDS * 256, waiting(256), first)
+        yield ringed(ROOT * 2 + ADDS * 3 + op(POKE) * 3, waiting(256), first)
+
+
+def worked_values():
+    """Values where a rule of the root or of the sum shows: each by itself, all of them one after the other, and from the input."""
+    values = RADICANDS + SMALL + NANS + HARD
+    for i, v in enumerate(values):
+        c = ringed(ROOT, [v, OTHER], 250 + i % 6)
+        yield stepped(c) if i % 2 else c
+    for i, (a, b) in enumerate(ADDENDS):
+        for k, pair in enumerate({(a, b): 0, (b, a): 0}):
+            c = ringed(ADDS, [*pair, THIRD], 250 + i % 6)
+            yield stepped(c) if (i + k) % 2 else c
+    yield ringed(ROOT * len(values), values, 200, position=0)
+    each = patch(op(SET, 1), op(WHILE), op(GET, 0), op(POKE), ROOT, op(PEEK), op(PUT, 0), op(SET, 1), op(END))
+    yield fresh(each, inputs=values, room=len(values), budget=2000)
+    flat = [v for pair in ADDENDS for v in pair]
+    each = patch(op(SET, 1), op(WHILE), op(GET, 0), op(POKE), op(GET, 0), op(POKE), ADDS, op(PEEK), op(PUT, 0), op(SET, 1), op(END))
+    yield fresh(each, inputs=flat, room=len(ADDENDS), budget=2000)
+    # a root of a root, and of a sum of squares
+    yield fresh(op(SETF, 0x40B0000000000000) + op(POKE) + ROOT * 4 + op(PEEK) + op(PUT, 0))
+    square = op(STORE, 1) + op(model01.MULF, 1) + op(POKE)
+    yield fresh(op(SETF, 0x4008000000000000) + square + op(SETF, 0x4010000000000000) + square + ADDS + ROOT + op(PEEK) + op(PUT, 0), tape=1)
+
+
+def too_few():
+    """33: none waits, or one for two. Nothing is taken, also where the ring's places hold something; comments are passed, and the lane is 0."""
+    for call, n in ((ROOT, 0), (ADDS, 0), (ADDS, 1)):
+        for first in (0, 7, 255):
+            for lanes in (0, 7):
+                yield from budgets(ringed(call, waiting(n), first, lanes=lanes), 1)
+        yield from budgets(ringed(op(FREE) + call, waiting(n), 254), 0, 1, 2)
+        yield from budgets(annotated(ringed(op(FREE) + call, waiting(n), 254), [1, 2, 1]), 1, 2)
+        yield from both(counted(ringed(op(FREE) + call, waiting(n)), [3, 4]))
+        yield ringed(op(FREE) + call + op(PEEK), waiting(n), 3, position=1)
+        yield ringed(op(PEEK) + call, waiting(n + 1), 255)
+        yield ringed(op(SET, 1) + op(WHILE) + call + op(END), waiting(n), 9)
+    yield from budgets(fresh(ROOT), 0, 1)
+    yield from budgets(fresh(op(POKE) + ADDS), 1, 2)
+    yield fresh(op(POKE) + ADDS + op(PEEK))
+    yield fresh(op(POKE) + ROOT + ROOT + ADDS)
+    yield fresh(op(POKE) * 2 + ADDS + ADDS)
+    for call in (ROOT, ADDS):
+        yield fresh(op(POKE) + op(PEEK) + call)
+        yield fresh(op(LOAD, 0) + call)
+
+
+def without_lanes():
+    """A call needs no lane and leaves the register as it is."""
+    for call in (ROOT, ADDS):
+        for lanes in (0, 1, 3, 1024):
+            for one in (lambda c: c, stepped):
+                yield one(ringed(call, waiting(3), 255, lanes=lanes))
+        for n in (0, 1, 3):
+            yield fresh(op(SETF, SQUARE) + op(POKE) * 2 + op(SETF, *[OTHER] * n) + call + op(PUT, 0) + op(PEEK))
+            yield fresh(op(POKE) * 2 + op(LOAD, n) + call + op(POKE), tape=3)
+
+
+def bound_files():
+    """Files: payloads of every length up to 4, bindings that there are and are not, and what is tested before and after."""
+    free = op(FREE)
+    for call in (checking, fresh, joining, flattening):
+        for n in range(6):
+            yield call(free + record(FFI, bytes(n)) + free)
+        for number in (0, 1, 2, 3, 4, 255, 256, 257, 258, 512, 32768, 65535):
+            yield call(free + op(FFI, number))
+    for payload in (b"\0", b"\1", b"\2", b"\2\0\0", b"\0\0\0\0", b"\1\0\0\0", b"\4\0\0\0", b"\2\0\0\0\0\0\0\0"):
+        yield checking(record(FFI, payload))
+        yield stepped(state(record(FFI, payload)))
+    for cut in range(1, 8):
+        yield checking(ADDS[:cut])
+    for length in (0, 1, 2, 3, 5, 6, 0x7FFFFFFF, 0xFFFFFFFF):
+        yield checking(struct.pack("<I", length) + op(FFI, 2)[4:])
+        yield fresh(struct.pack("<I", length) + ADDS[4:])
+    # an op too many, the fault of its own first; the most that there can be
+    for number in (1, 2):
+        yield checking(free * 4096 + op(FFI, number))
+    yield checking(ROOT * 4096)
+    yield checking(ROOT * 4096 + record(FFI))
+    for mode in (2, 4):
+        yield checking(op(FFI, mode) + op(PUT, mode))
+        yield checking(op(PUT, mode) + op(FFI, mode))
+    # the file's number comes before 37
+    c = ringed(op(FFI, 2), waiting(2))
+    c.machine.waiting = 257
+    yield c
+    for call in (ROOT, ADDS):
+        for numbers in (dict(waiting=257), dict(first=256), dict(lanes=1025), dict(mode=2), dict(counted=1)):
+            yield from budgets(ringed(call, waiting(2), **numbers), 1)
+        c = ringed(call, waiting(2), 255)
+        c.channel = c.channel[:255] + [1]
+        c.machine.first = 254
+        yield c
+        c = copy.copy(c)
+        c.channel = c.channel[:-1]
+        yield c
+
+
+def known_lanes():
+    """The check: a call needs no lane, and what is known of the register stays known."""
+    add = model01.ADD
+    for call in (ROOT, ADDS):
+        for n in (0, 1, 3):
+            yield checking(op(LOAD, n) + call)
+            yield checking(op(LOAD, n) + call + op(add, 2))
+            yield checking(op(LOAD, n) + call + op(PUT, 0))
+            yield checking(op(SETF, *[0] * n) + call + op(STORE, 3) + call)
+            yield checking(op(IF) + op(LOAD, n) + call + op(add, 1) + op(END))
+            yield checking(op(LOAD, 3) + op(IF) + call + op(add, n) + op(END))
+        yield checking(call + op(STORE, 1024))
+        yield checking(call)
+        yield checking(op(IF) + call + op(ELSE) + call + op(END) + call)
+        yield checking(call + op(END))
+        yield checking(op(WHILE) + call)
+        yield checking(op(FUNCTION) + op(LOAD, 0) + call + op(LOAD, 1) + op(RETURN) + op(END))
+
+
+def apart():
+    """Joining: a call joins with nothing, and what stands on its two sides does not meet. Flattening: it goes with its body."""
+    for call in (ROOT, ADDS):
+        for left, right in (((MOVE, 1), (MOVE, -1)), ((MOVE, 3), (SET, 1)), ((SET, 1), (SET, 2)), ((DEREF,), (REFER,)), ((ELSE,), (END,)),
+                            ((MOVE, 2), (REFER,)), ((STORE, 1), (LOAD, 1)), ((SET, 5), (GEZ, 1)), ((MOVE, 1), (OFFSET, 3, 1)), ((POKE,), (PEEK,))):
+            a, b = op(*left), op(*right)
+            yield joining(a + call + b)
+            yield joining(a + b + call + a + b)
+        yield joining(call + call)
+        yield joining(call + op(MOVE, 0) + call)
+        yield joining(call, room=7)
+        yield joining(ROOT + call + ADDS, room=30)
+        yield flattening(call)
+        yield flattening(call, room=7)
+        yield flattening(call + (op(FUNCTION) + op(END)) * 2)
+        yield flattening(call + op(FUNCTION) + call + op(END) + call)
+        yield flattening(op(FUNCTION) + call + op(FUNCTION) + ADDS + op(END) + ROOT + op(END) + op(FUNCTION) + op(END))
+        yield flattening(call + op(FUNCTION) + op(IF) + call + op(END) + op(END) + op(WHILE) + call + op(END))
+        yield flattening(op(FUNCTION) + call + op(END) + op(FUNCTION) + op(END) + call + op(END))
+
+
+def called_by_routines():
+    """Calls in functions and loops, in both call modes; taken up again after each step, with counts and a total."""
+    root = patch(op(FUNCTION), op(POKE), ROOT, op(PEEK), op(PUT, 0), op(RETURN), op(END))
+    total = patch(op(FUNCTION), ADDS, op(PEEK), op(PUT, 0), op(RETURN), op(END))
+    main = patch(op(SETF, SQUARE), op(POKE), op(SETF, OTHER), op(POKE), op(SET, 1), op(CALL), op(SET, 0), op(CALL), op(RETURN))
+    for data in (main + root + total, main + total + root, root + main + total):
+        yield from both(fresh(data, budget=60))
+    # three roots of one value, one of the other: the first is behind the second while the loop goes round
+    loop = patch(op(SETF, 0x40B0000000000000), op(POKE), op(SETF, SQUARE), op(POKE), op(SET, 2), op(WHILE), op(STORE, 1), ROOT, NOTE, op(PEEK), op(POKE),
+                 op(LOAD, 1), op(model01.DEC, 1), op(END), ADDS, op(PEEK), op(PUT, 0))
+    for k in range(24):
+        c = resumed(fresh(loop, k % 2, tape=2), k)
+        yield c
+        if k % 2:
+            yield stepped(copy.copy(c))
+    for call, n in ((ROOT, 2), (ADDS, 3)):
+        for count in (0, 5, (1 << 32) - 1, 1 << 32):
+            yield from budgets(counted(ringed(call + call, waiting(n)), [count, 7]), 1, 2, 3)
+        for left in (0, 1, 2):
+            yield from budgets(counted(ringed(call + call, waiting(n), 255), [7, MOST - 7 - left]), 1, 2)
+        for budget in range(4):
+            yield from budgets(annotated(ringed(call + call, waiting(n), 255), [1, 2, 1]), budget)
+        for numbers in (dict(halted=1), dict(position=1)):
+            yield from budgets(ringed(call, waiting(n), 255, **numbers), 1)
+
+
+def through():
+    """Calls through the channel."""
+    yield from in_rings()
+    yield from worked_values()
+    yield from too_few()
+    yield from without_lanes()
+    yield from bound_files()
+    yield from known_lanes()
+    yield from apart()
+    yield from called_by_routines()
+
+
+def short_channels():
+    """Every patch of up to 5 ops of the channel, from rings of up to 3 values that wrap and do not, and from a full one."""
+    for n in range(1, 6):
+        for ops in itertools.product([op(POKE), op(PEEK), ROOT, ADDS], repeat=n):
+            if ROOT in ops or ADDS in ops:
+                for values, first in ((0, 255), (1, 0), (2, 255), (3, 254), (256, 3)):
+                    yield ringed(patch(*ops), waiting(values), first, lanes=1)
+
+
+def piped(seed, count):
+    """Random patches that send, call and take back, with counts: from fresh, from a ring or by a step, some in both modes or annotated; some are
+    checked; and others with calls among their ops are joined and flattened."""
+    maker = Maker("channel %d" % seed)
+    r = maker.r
+    for _ in range(count):
+        pick = r.random()
+        if pick < 0.06:
+            yield checking(maker.channelled())
+            continue
+        if pick < 0.12:
+            data = maker.with_calls(maker.shape())
+            yield joining(data, maker.room(data), r.randrange(256))
+            continue
+        if pick < 0.18:
+            data = maker.with_calls(maker.nested())
+            yield flattening(data, maker.room(data), marks(data) + r.choice([0, 0, 1]), r.randrange(256))
+            continue
+        data = maker.channelled()
+        c = maker.in_a_ring(data) if pick < 0.6 else fresh(data, **maker.sizes())
+        if r.random() < 0.2:
+            c = with_comments(c, r)
+        elif c.sort == RUN and r.random() < 0.3:
+            stepped(c)
+        c = counted(c, drawn_counts(c))
+        yield from styled("channel", both(c) if r.random() < 0.2 else [c])
+
+
 # ---- 01's own cases
 
 def paper():
@@ -1630,6 +1985,8 @@ def smallest():
     yield "short tape", "port", at_limit(op(ALLOC), counted=1)
     yield "short tape", "port", stepped(at_limit(op(LOAD, 1), counted=29_999))
     yield "stray End", "panic", flattening(op(END))
+    yield "too few values", "panic", fresh(op(FFI, SQUARE_ROOT))
+    yield "too few values", "panic", fresh(op(POKE) + op(FFI, SUM))
     yield "both refuse", "err", fresh(op(MOVE, -1))
     yield "both refuse", "err", fresh(op(REFER))
     yield "both refuse", "err", fresh(op(CALL))
@@ -1643,6 +2000,7 @@ def smallest():
     yield "device before lane", "err", fresh(op(LOAD, 0) + op(GET, 0))
     yield "device before lane", "err", fresh(op(LOAD, 0) + op(PEEK))
     yield "NaN bits", "agree", fresh(op(LOAD, 1) + op(SETF, 0) + op(model01.DIVF, 1), tape=1)
+    yield "NaN bits", "agree", fresh(op(SETF, 0xBFF0000000000000) + op(POKE) + op(FFI, SQUARE_ROOT) + op(PEEK))
     c = state(op(LOAD, 1), tape=1)
     c.tape[0] = 1
     yield "lent cells not zero", "dirty", c
@@ -1684,7 +2042,8 @@ def rusts_own():
 
 def limits():
     """All the cases but the exhaustive and the random ones."""
-    return itertools.chain(paper(), boundary(), partners(), missing(), comments(), short_comments(), calls(), short_calls(), tallies())
+    return itertools.chain(paper(), boundary(), partners(), missing(), comments(), short_comments(), calls(), short_calls(), tallies(), through(),
+                           short_channels())
 
 
 def answered(cases):

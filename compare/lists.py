@@ -24,7 +24,7 @@ NAMES = {
     28: "add", 29: "sub", 30: "mul", 31: "div", 32: "rem", 33: "neg", 34: "inc", 35: "dec", 36: "swap", 37: "gez", 38: "get",
     39: "put", 256: "set-f", 257: "alloc", 258: "free", 259: "to-int", 260: "to-float", 261: "add-f", 262: "sub-f",
     263: "mul-f", 264: "div-f", 265: "rem-f", 266: "neg-f", 267: "gez-f", 268: "sin", 269: "cos", 270: "tan", 271: "asin",
-    272: "acos", 273: "atan", 274: "pow", 275: "peek", 276: "poke", 277: "call-ffi",
+    272: "acos", 273: "atan", 274: "pow", 275: "peek", 276: "poke", 277: "call",
 }
 
 
@@ -232,7 +232,9 @@ def op_words(kind, p):
     if kind in (38, 39) and len(p) == 2:
         mode = struct.unpack("<H", p)[0]
         return name + " " + (["char", "int", "float", "other"][mode] if mode < 4 else "mode %d" % mode)
-    if kind in NAMES and len(p) == 4:
+    if kind == 277 and len(p) == 2:
+        return "%s %d" % (name, struct.unpack("<H", p)[0])
+    if kind in NAMES and kind != 277 and len(p) == 4:
         return "%s %d" % (name, struct.unpack("<I", p)[0])
     return name + (" <%s>" % p.hex() if p else "")
 

@@ -22,6 +22,10 @@ MOST = 1 << 53
 WORD = (1 << 64) - 1
 LEAST = 1 << 63
 NAN = 0x7FF8000000000000
+INFINITY = 0x7FF0000000000000
+# 02, ask 9: "0 for square_root, 1 for add", and how many values each takes
+SQUARE_ROOT, SUM = range(2)
+TAKES = {SQUARE_ROOT: 1, SUM: 2}
 
 # the kinds, in the order of the two enums
 (COMMENT, SET, FUNCTION, CALL, RETURN, WHILE, IF, ELSE, END, STORE, LOAD, MOVE, WHERE, DEREF, REFER, INDEX, OFFSET, NAND, BAND, BOR,
@@ -29,7 +33,7 @@ NAN = 0x7FF8000000000000
 (SETF, ALLOC, FREE, TOINT, TOFLOAT, ADDF, SUBF, MULF, DIVF, REMF, NEGF, GEZF, SIN, COS, TAN, ASIN, ACOS, ATAN, POW, PEEK, POKE,
  FFI) = range(256, 278)
 
-LEFT_OUT = {SIN, COS, TAN, ASIN, ACOS, ATAN, POW, FFI}
+LEFT_OUT = {SIN, COS, TAN, ASIN, ACOS, ATAN, POW}
 OPENS = (FUNCTION, WHILE, IF)
 CELL_OPS = {INDEX, NAND, BAND, BOR, BXOR, LSH, LRSH, ARSH, AND, OR, ADD, SUB, MUL, DIV, REM, SWAP, ADDF, SUBF, MULF, DIVF, REMF}
 LANE_OPS = {OFFSET, BNOT, NOT, NEG, INC, DEC, GEZ, TOINT, TOFLOAT, NEGF, GEZF}
@@ -81,7 +85,7 @@ def read_patch(data):
             if len(p) != 8:
                 return 2, at, None
             op.value = struct.unpack("<q", p)[0]
-        elif kind in (GET, PUT):
+        elif kind in (GET, PUT, FFI):
             if len(p) != 2:
                 return 2, at, None
             op.value = struct.unpack("<H", p)[0]
@@ -99,6 +103,9 @@ def read_patch(data):
                 return 6, at, None
             if op.value == 2:
                 return 4, at, None
+        # 02, ask 9: "6 for another binding number"
+        if kind == FFI and op.value not in TAKES:
+            return 6, at, None
         if len(ops) == OPS:
             return 7, at, None
         if kind == FUNCTION:
@@ -165,6 +172,38 @@ def truncated(a):
     if x < -2.0 ** 63:
         return LEAST
     return int(x) & WORD
+
+
+def units(a):
+    """A positive finite float as a whole number, of which 2^1074 make 1."""
+    places = a >> 52
+    return a if places == 0 else ((1 << 52) + a % (1 << 52)) << places - 1
+
+
+def root(a):
+    """02, ask 9: of a positive finite value "the nearest float, ties to even, defined by comparing squares as whole numbers"."""
+    # "either zero gives itself"
+    if a % LEAST == 0:
+        return a
+    # "a negative or NaN gives 01's NaN", minus infinity too; "infinity itself"
+    if a > INFINITY:
+        return NAN
+    if a == INFINITY:
+        return INFINITY
+    # of the root as a whole number of the same units this is the square
+    square = units(a) << 1074
+    # the greatest float that is not above the root, and the next one: patterns side by side
+    whole = math.isqrt(square)
+    places = whole.bit_length() - 53
+    low = (places << 52) + (whole >> places)
+    # the root against the middle of the two: by the squares of their doubles
+    middle = (units(low) + units(low + 1)) ** 2
+    if 4 * square == middle:
+        return low + low % 2
+    return low + (4 * square > middle)
+
+
+BINDINGS = {SQUARE_ROOT: root, SUM: lambda a, b: stored(as_float(a) + as_float(b))}
 
 
 CELL_RULES = {
@@ -453,6 +492,17 @@ def step(ops, inputs, m, s):
         if m.waiting == DEPTH:
             return 34
         s.channel[(m.first + m.waiting) % DEPTH] = reg[0]
+        m.waiting += 1
+    elif kind == FFI:
+        # 02, ask 9: "33 when too few values wait, with none taken"
+        takes = TAKES[op.value]
+        if m.waiting < takes:
+            return 33
+        # "takes its values from the front of the channel and puts its result at the back"
+        taken = [s.channel[(m.first + i) % DEPTH] for i in range(takes)]
+        m.first = (m.first + takes) % DEPTH
+        m.waiting -= takes
+        s.channel[(m.first + m.waiting) % DEPTH] = BINDINGS[op.value](*taken)
         m.waiting += 1
     m.position += 1
     return 0

@@ -30,6 +30,20 @@ MOST = "        if m.total == MOST:\n            a.number = 50\n            retu
 STOP = "        if a.number:\n            return a\n        a.steps += 1\n"
 RAISE = "        a.counts[a.place] += 1\n"
 TOTAL = "        m.total += 1\n"
+BOUND = "        if kind == FFI and op.value not in TAKES:\n            return 6, at, None\n"
+OF_TWO = "        elif kind in (GET, PUT, FFI):\n            if len(p) != 2:\n                return 2, at, None\n"
+TOO_FEW = "        if m.waiting < takes:\n            return 33\n"
+TAKEN = "        taken = [s.channel[(m.first + i) % DEPTH] for i in range(takes)]\n"
+GONE = "        m.first = (m.first + takes) % DEPTH\n        m.waiting -= takes\n"
+BACK = "        s.channel[(m.first + m.waiting) % DEPTH] = BINDINGS[op.value](*taken)\n        m.waiting += 1\n"
+ZERO = "    if a % LEAST == 0:\n        return a\n"
+NO_ROOT = "    if a > INFINITY:\n        return NAN\n"
+ENDLESS = "    if a == INFINITY:\n        return INFINITY\n"
+SQUARE = "    square = units(a) << 1074\n"
+NEAREST = "    return low + (4 * square > middle)\n"
+SUM_RULE = "stored(as_float(a) + as_float(b))}\n"
+KNOWN = "        if kind in (SET, SETF, LOAD):\n            known = op.n\n"
+NEED = "        need = 1 if kind in ONE_LANE else"
 # what is wrong, the line of model01.py that says it right, and the wrong one
 READINGS = [
     ("End goes back to test the While again", "                m.position = partner\n", "                m.position = partner - 1\n"),
@@ -85,7 +99,7 @@ READINGS = [
     ("a comment over 255 bytes is 5", "            if len(p) > 255:\n                return 2, at, None\n",
      "            if len(p) > 255:\n                return 5, at, None\n"),
     ("4 by kind after the payload's length", "        if kind in LEFT_OUT:\n            return 4, at, None\n",
-     "        if kind in LEFT_OUT:\n            return (4 if len(p) == 4 * (kind != FFI) else 2), at, None\n"),
+     "        if kind in LEFT_OUT:\n            return (4 if len(p) == 4 else 2), at, None\n"),
     ("an Else closes nothing and needs no bracket", "        if kind == ELSE and not open_at:\n            return Answer(11, i)\n", ""),
     ("lanes are kept across a bracket", "            known = 1\n", "            known = known\n"),
     ("13 names the latest bracket", "Answer(13, open_at[0])", "Answer(13, open_at[-1])"),
@@ -391,6 +405,161 @@ OF_COUNTS = [
 ]
 
 
+def of_root(wrong):
+    """The root, but of some patterns this."""
+    return ZERO, wrong + ZERO
+
+
+def as_binding(number, more=""):
+    """A line that takes a call's number as this one."""
+    return "        op.value = %s if kind == FFI else op.value\n" % number + more
+
+
+def of_length(when):
+    """A call's payload is of its length then too, with zeros after it where it is short."""
+    return OF_TWO, OF_TWO.replace("len(p) != 2", "len(p) != 2 and not (kind == FFI and %s)" % when) + "            p = (p + bytes(2))[:2]\n"
+
+
+def at_33(line):
+    """33 with this done before."""
+    return TOO_FEW, TOO_FEW.replace("            return 33", "            %s\n            return 33" % line)
+
+
+def of_one(value):
+    """A sum with one value waiting sends this."""
+    return TOO_FEW, ("        if m.waiting == 0:\n            return 33\n        if m.waiting < takes:\n            one = as_float(s.channel[m.first])\n"
+                     "            m.first = (m.first + 1) %% DEPTH\n            s.channel[m.first] = stored(%s)\n            m.position += 1\n"
+                     "            return 0\n" % value)
+
+
+# of calls through the channel (02, ask 9)
+OF_CALLS = [
+    # the file
+    ("277 is still 4", BOUND, BOUND.replace(" and op.value not in TAKES", "").replace("6", "4")),
+    ("binding 2 is taken as the sum", BOUND, BOUND.replace("not in TAKES", "> 2") + as_binding("min(op.value, 1)")),
+    ("every other binding is the sum", BOUND, as_binding("min(op.value, 1)")),
+    ("every other binding is the root", BOUND, as_binding("int(op.value == 1)")),
+    ("binding 2 is 4, as mode 2 is", BOUND, BOUND.replace("return 6", "return (4 if op.value == 2 else 6)")),
+    ("another binding is 4", BOUND, BOUND.replace("return 6", "return 4")),
+    ("another binding is 2", BOUND, BOUND.replace("return 6", "return 2")),
+    ("another binding is 3", BOUND, BOUND.replace("return 6", "return 3")),
+    ("a binding over 3 alone is 6", BOUND, BOUND.replace("not in TAKES", "> 3") + as_binding("min(op.value, 1)")),
+    ("a binding is one byte", BOUND, as_binding("op.value % 256", BOUND)),
+    ("a binding has its high byte first", BOUND, as_binding("op.value % 256 * 256 + op.value // 256", BOUND)),
+    ("a binding has 4 bytes", OF_TWO, OF_TWO.replace("len(p) != 2", "len(p) != (4 if kind == FFI else 2)") + "            p = p[:2]\n"),
+    ("a binding may have 4 bytes", *of_length("len(p) == 4")),
+    ("a binding may have more bytes", *of_length("len(p) > 2")),
+    ("a binding may have one byte", *of_length("len(p) == 1")),
+    ("no binding is the root", *of_length("not p")),
+    ("6 before the payload's length", OF_TWO, "        elif kind == FFI and len(p) >= 2 and (p[0] > 1 or p[1]):\n            return 6, at, None\n" + OF_TWO),
+    ("7 before 6", BOUND, "        if len(ops) == OPS:\n            return 7, at, None\n" + BOUND),
+    # what is taken, and where the result goes
+    ("the root is binding 1, the sum 0", "SQUARE_ROOT, SUM = range(2)\n", "SUM, SQUARE_ROOT = range(2)\n"),
+    ("the result goes to the front", BACK,
+     "        m.first = (m.first - 1) % DEPTH\n        s.channel[m.first] = BINDINGS[op.value](*taken)\n        m.waiting += 1\n"),
+    ("the newest values are taken", TAKEN + GONE,
+     "        taken = [s.channel[(m.first + m.waiting - 1 - i) % DEPTH] for i in range(takes)]\n        m.waiting -= takes\n"),
+    ("the newest value is taken, and the place of the oldest goes", TAKEN, TAKEN.replace("m.first + i", "m.first + m.waiting - 1 - i")),
+    ("the sum takes one", GONE, GONE.replace("takes", "1")),
+    ("the sum is of the first value twice", TAKEN, TAKEN.replace("m.first + i", "m.first")),
+    ("the sum is of the first and the third", TAKEN, TAKEN.replace("m.first + i", "m.first + 2 * i")),
+    ("the sum is of the first and the newest", TAKEN, TAKEN.replace("m.first + i", "m.first + (m.waiting - 1 if i else 0)")),
+    ("the root takes two", "TAKES = {SQUARE_ROOT: 1, SUM: 2}\n", "TAKES = {SQUARE_ROOT: 2, SUM: 2}\n"),
+    ("the root is of the second", TAKEN, TAKEN.replace("m.first + i", "m.first + i + (op.value == SQUARE_ROOT)")),
+    ("what is taken stays", GONE, ""),
+    ("what is taken is zeroed", GONE, "        for i in range(takes):\n            s.channel[(m.first + i) % DEPTH] = 0\n" + GONE),
+    ("a call empties the channel", GONE, GONE + "        m.first, m.waiting = (m.first + m.waiting) % DEPTH, 0\n"),
+    ("a call lays the ring from place 0 on", BACK, BACK + "        ring = [s.channel[(m.first + i) % DEPTH] for i in range(m.waiting)]\n"
+     "        s.channel[:m.waiting], m.first = ring, 0\n"),
+    ("no result is sent", BACK, ""),
+    ("the result is sent twice", BACK, BACK + "        if m.waiting < DEPTH:\n" + "".join("    " + line for line in BACK.splitlines(True))),
+    ("the result is stored where the ring ended before", BACK, BACK.replace("m.first + m.waiting", "m.first + m.waiting - takes")),
+    ("the result is stored one place on", BACK, BACK.replace("m.first + m.waiting", "m.first + m.waiting + 1")),
+    ("the result is stored over the newest", BACK, BACK.replace("m.first + m.waiting", "m.first + m.waiting - 1")),
+    ("the result's place stops at the last", BACK, BACK.replace("(m.first + m.waiting) % DEPTH", "min(m.first + m.waiting, DEPTH - 1)")),
+    ("the result's place starts at 0 past the last", BACK,
+     BACK.replace("(m.first + m.waiting) % DEPTH", "(m.first + m.waiting if m.first + m.waiting < DEPTH else 0)")),
+    ("the second value is not sought at place 0", TAKEN, TAKEN.replace("(m.first + i) % DEPTH", "min(m.first + i, DEPTH - 1)")),
+    ("the first place goes to 0 past the last", GONE, GONE.replace("(m.first + takes) % DEPTH", "(m.first + takes if m.first + takes < DEPTH else 0)")),
+    ("a ring has one place more", GONE, GONE.replace("% DEPTH", "% len(s.channel)")),
+    ("the result is in lane 0 too", BACK, BACK + "        reg[0] = BINDINGS[op.value](*taken)\n"),
+    ("the result is in lane 0 alone", BACK, "        reg[0] = BINDINGS[op.value](*taken)\n"),
+    ("the first value is lane 0", TAKEN, TAKEN + "        taken[0] = reg[0]\n"),
+    ("a full ring is 34", TOO_FEW, "        if m.waiting == DEPTH:\n            return 34\n" + TOO_FEW),
+    ("a full ring is 34 for the root", TOO_FEW, "        if m.waiting == DEPTH and takes == 1:\n            return 34\n" + TOO_FEW),
+    ("33 takes one", *at_33("m.first, m.waiting = (m.first + m.waiting) % DEPTH, 0")),
+    ("33 takes one and leaves its place first", *at_33("m.waiting = 0")),
+    ("33 lays an empty ring from place 0 on", *at_33("m.first = m.first if m.waiting else 0")),
+    ("33 zeroes what waits", *at_33("s.channel[m.first] = 0")),
+    ("one for two is added to 0", *of_one("one + 0.0")),
+    ("one for two is added to itself", *of_one("one + one")),
+    ("too few is 34", TOO_FEW, TOO_FEW.replace("33", "34")),
+    ("one for two is 34", TOO_FEW, TOO_FEW.replace("33", "(34 if m.waiting else 33)")),
+    ("too few is passed over", TOO_FEW, TOO_FEW.replace("            return 33", "            m.position += 1\n            return 0")),
+    ("a call needs a lane", TOO_FEW, "        if m.lanes < 1:\n            return 21\n" + TOO_FEW),
+    ("a call needs a lane for each value", TOO_FEW, "        if m.lanes < takes:\n            return 21\n" + TOO_FEW),
+    ("a call leaves one lane", BACK, BACK + "        m.lanes = min(m.lanes, 1)\n"),
+    ("a call is not counted", RAISE, "        if ops[a.place].kind != FFI:\n    " + RAISE),
+    ("a call is a step for each value", RAISE, RAISE + "        a.steps += ops[a.place].kind == FFI and ops[a.place].value\n"),
+    # the sum
+    ("a sum's NaN keeps its bits", SUM_RULE, "struct.unpack('<Q', struct.pack('<d', as_float(a) + as_float(b)))[0]}\n"),
+    ("a sum with a NaN gives that NaN", SUM_RULE, "next((v for v in (a, b) if v % LEAST > INFINITY), " + SUM_RULE.replace("}", ")}")),
+    ("infinity and minus infinity are 0", SUM_RULE, "0 if {a, b} == {INFINITY, INFINITY + LEAST} else " + SUM_RULE),
+    ("a sum of -0 and -0 is 0", SUM_RULE, "stored(as_float(a) + as_float(b) + 0.0)}\n"),
+    ("a sum past the largest is the largest", SUM_RULE,
+     "INFINITY - 1 if max(a, b) < INFINITY == stored(as_float(a) + as_float(b)) else " + SUM_RULE),
+    ("whole numbers are added", SUM_RULE, "(a + b) & WORD}\n"),
+    ("the second is taken from the first", SUM_RULE, "stored(as_float(a) - as_float(b))}\n"),
+    # the root
+    ("the root of a whole number", *of_root("    if 1:\n        return math.isqrt(a)\n")),
+    ("-0 gives 0", *of_root("    if a == LEAST:\n        return 0\n")),
+    ("-0 gives the NaN", *of_root("    if a == LEAST:\n        return NAN\n")),
+    ("0 gives the NaN", *of_root("    if a == 0:\n        return NAN\n")),
+    ("a negative value gives the signed NaN", *of_root("    if LEAST < a <= INFINITY + LEAST:\n        return NAN + LEAST\n")),
+    ("a negative value gives itself", *of_root("    if LEAST < a <= INFINITY + LEAST:\n        return a\n")),
+    ("a negative value gives 0", *of_root("    if LEAST < a <= INFINITY + LEAST:\n        return 0\n")),
+    ("a negative value's sign is passed over", *of_root("    if LEAST < a:\n        return root(a - LEAST)\n")),
+    ("minus infinity gives itself", *of_root("    if a == INFINITY + LEAST:\n        return a\n")),
+    ("minus infinity gives infinity", *of_root("    if a == INFINITY + LEAST:\n        return INFINITY\n")),
+    ("a negative subnormal gives -0", *of_root("    if LEAST < a < LEAST + (1 << 52):\n        return LEAST\n")),
+    ("a NaN gives itself", *of_root("    if a % LEAST > INFINITY:\n        return a\n")),
+    ("a NaN keeps its bits but for the first", *of_root("    if a % LEAST > INFINITY:\n        return a | 1 << 51\n")),
+    ("a NaN keeps its sign", *of_root("    if a % LEAST > INFINITY:\n        return NAN + (a & LEAST)\n")),
+    ("a NaN with a sign gives itself", *of_root("    if a > INFINITY + LEAST:\n        return a\n")),
+    ("infinity gives the NaN", ENDLESS, "    if a == INFINITY:\n        return NAN\n"),
+    ("infinity gives the largest", ENDLESS, "    if a == INFINITY:\n        return INFINITY - 1\n"),
+    ("infinity is a number", ENDLESS, ""),
+    ("a subnormal gives 0", *of_root("    if a < 1 << 52:\n        return 0\n")),
+    ("a subnormal gives itself", *of_root("    if a < 1 << 52:\n        return a\n")),
+    ("a subnormal has the digit that the others have", SQUARE, "    square = ((1 << 52) + a if a < 1 << 52 else units(a)) << 1074\n"),
+    ("a subnormal's place is one lower", SQUARE, "    square = units(a) << 1074\n    if a < 1 << 52:\n        square >>= 1\n"),
+    ("the least subnormal gives 0", *of_root("    if a == 1:\n        return 0\n")),
+    ("the root is rounded down", NEAREST, "    return low\n"),
+    ("the root is rounded up", NEAREST, "    return low + (units(low) ** 2 != square)\n"),
+    ("the root is rounded up where the rest is the root", NEAREST, "    return low + (square >= units(low) * units(low + 1))\n"),
+    ("the root is rounded by its last digit", NEAREST, "    return low + (low % 2 and 4 * square > middle)\n"),
+    ("the root has one digit less", NEAREST, "    return (low + (4 * square > middle)) // 2 * 2\n"),
+    ("the root has 24 digits", NEAREST, "    return (low + (1 << 28)) >> 29 << 29\n"),
+    ("an odd place is taken as the even one below", SQUARE, "    square = units(a - (1 << 52) if a >= 1 << 52 and (a >> 52) % 2 == 0 else a) << 1074\n"),
+    ("the root's place is rounded up", NEAREST, "    return low + (4 * square > middle) + (((a >> 52) % 2 == 0) << 52)\n"),
+    # the check, joining and flattening
+    ("the check asks for a lane", NEED, "        need = 1 if kind in ONE_LANE or kind == FFI else"),
+    ("the check asks for a lane for each value", NEED, "        need = op.value + 1 if kind == FFI else 1 if kind in ONE_LANE else"),
+    ("after a call one lane is known", KNOWN, "        if kind == FFI:\n            known = 1\n" + KNOWN),
+    ("after a call at most one lane is known", KNOWN, "        if kind == FFI:\n            known = min(known, 1)\n" + KNOWN),
+    ("after a call no lane is known", KNOWN, "        if kind == FFI:\n            known = 0\n" + KNOWN),
+    ("after a call every lane is known", KNOWN, "        if kind == FFI:\n            known = LANES\n" + KNOWN),
+    ("joining leaves calls out", "        if op.kind < 40:\n", "        if op.kind == FFI:\n            continue\n        if op.kind < 40:\n"),
+    ("joining makes one of two like calls", "        if op.kind < 40:\n",
+     "        if op.kind == FFI and done[-1:] == [(FFI, held)]:\n            continue\n        if op.kind < 40:\n"),
+    ("joining goes past a call", "            push(done, (op.kind, held))\n",
+     "            late = []\n            while done and done[-1][0] == FFI:\n                late.append(done.pop())\n"
+     "            push(done, (op.kind, held))\n            done += late[::-1]\n"),
+    ("a call goes to main", "        inside.append(op.record)\n    if c.room", "        (main if kind == FFI else inside).append(op.record)\n    if c.room"),
+    ("a call does not count main as begun", "len(bodies) + (1 if main else 0)", "len(bodies) + (1 if any(r[4:6] != b'\\x15\\x01' for r in main) else 0)"),
+]
+
+
 def planted(readings):
     """Each of these wrong readings with the model that has it."""
     with open(os.path.join(HERE, "model01.py")) as f:
@@ -421,7 +590,7 @@ def main(args):
         with open(os.path.join(HERE, "..", "lists", name + ".list"), "rb") as f:
             cases += [(c, data) for data in lists.split(f.read()) for c in lists.read(data)]
     missed = 0
-    for what, wrong in planted(READINGS + OF_COMMENTS + OF_MODES + OF_COUNTS):
+    for what, wrong in planted(READINGS + OF_COMMENTS + OF_MODES + OF_COUNTS + OF_CALLS):
         found = sum(finds(wrong, c, data) for c, data in cases)
         print("%5d  %s" % (found, what), flush=True)
         missed += not found

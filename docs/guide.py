@@ -28,7 +28,7 @@ sys.path[:0] = [str(ROOT / "tools"), str(ROOT / "compare"), str(ROOT / "patches"
 import command  # noqa: E402
 import lists  # noqa: E402
 import model01  # noqa: E402
-from make import KINDS, assemble_op  # noqa: E402
+from make import KINDS, assemble_op, kind_of  # noqa: E402
 
 GUIDE = ROOT / "docs" / "GUIDE.md"
 README = ROOT / "README.md"
@@ -163,6 +163,7 @@ SHOW = {
     "calls": lambda c, a: shortened(signed(a.machine.calls)),
     "refs": lambda c, a: shortened(signed(a.machine.refs)),
     "channel": lambda c, a: shortened(signed(a.channel[(a.machine.first + i) % 256] for i in range(a.machine.waiting))),
+    "waiting": lambda c, a: shortened(floats(a.channel[(a.machine.first + i) % 256] for i in range(a.machine.waiting))),
     "left": lambda c, a: shortened(signed(c.inputs[a.machine.taken:])),
     "out": lambda c, a: shortened(signed(a.outputs[:a.machine.written])),
     "counts": lambda c, a: shortened([str(count) for count in a.counts]),
@@ -259,7 +260,7 @@ def row_example(cell):
 
 
 def kinds_in(example):
-    return {KINDS[op.split()[0]][0] for op in example.ops if op.split()[0] in KINDS}
+    return {kind_of(op)[0] for op in example.ops if op.split()[0] in KINDS}
 
 
 def about(head, row, example):

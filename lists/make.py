@@ -34,6 +34,9 @@ ANNOTATED = {"annotated": 100}
 MODES = {"routines": 70, "every mark": 24, "by mark": 50, "no mode": 10}
 # of the counts
 COUNTS = {"near the most": 60, "miscounted": 60}
+# of calls through the channel, and joinings and flattenings of random patches with them
+CHANNEL = {"channel": 150}
+CALLED = 20
 # joinings and flattenings that are written
 SHAPES = 330
 WIDE = 900
@@ -125,7 +128,8 @@ def replay_list(judge):
         if any(left.values()):
             sys.exit("lists/make.py: too few of a style: %s" % left)
 
-    before = edges + [(c, data) for c, data in randoms if c.style not in COUNTS]
+    first = [(c, data) for c, data in randoms if c.style not in CHANNEL]
+    before = edges + [(c, data) for c, data in first if c.style not in COUNTS]
     tell(plant.READINGS, before)
     for number in NUMBERS:
         for c, data in edges:
@@ -148,14 +152,19 @@ def replay_list(judge):
     for c, data, _ in settled(judge, generate.tallies()):
         keep(c, data)
     sample(2031, 4500, COUNTS)
-    tell(plant.OF_COUNTS, randoms)
+    tell(plant.OF_COUNTS, first)
+    # calls through the channel, and random runs with them
+    for c, data, _ in settled(judge, generate.through()):
+        keep(c, data)
+    sample(2032, 2400, CHANNEL)
+    tell(plant.OF_CALLS, randoms)
     for number in NUMBERS:
         if numbers.get(number, 0) < OFTEN:
             sys.exit("lists/make.py: number %d is met %d times" % (number, numbers.get(number, 0)))
     for s, wanted in STYLES.items():
         if styles.get(s, 0) < wanted:
             sys.exit("lists/make.py: only %d of style %s" % (styles.get(s, 0), s))
-    for kind in generate.KINDS:
+    for kind in generate.CARRIED:
         if kinds.get(kind, 0) < 10:
             sys.exit("lists/make.py: kind %d is met %d times" % (kind, kinds.get(kind, 0)))
     return list(kept)
@@ -194,6 +203,15 @@ def shapes_list(judge):
             kept.append(data)
     if min(written.values()) < SHAPES:
         sys.exit("lists/make.py: too few shapes")
+    # with calls through the channel
+    kept += [data for _, data, _ in settled(judge, generate.apart())]
+    left = {lists.JOIN: CALLED, lists.FLATTEN: CALLED}
+    for c, data, _ in settled(judge, (c for c in generate.piped(2033, 3000) if c.sort in left)):
+        if left[c.sort] and len(data) < WIDE and c.answer.number == 0 and c.answer.written != c.patch:
+            left[c.sort] -= 1
+            kept.append(data)
+    if any(left.values()):
+        sys.exit("lists/make.py: too few shapes with calls: %s" % left)
     return kept
 
 

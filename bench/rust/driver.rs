@@ -1,12 +1,13 @@
 //! Runs the same patches on our machine and on the Rust, in turn, and prints the table.
 //!
 //!     driver runs FILE REPEATS      FILE has the patches as bench/patches.py writes them
+//!     driver calls FILE REPEATS     the same, the Rust with its standard device, which has the functions that FFI Call calls: patches with no input and no output
 //!     driver files FILE REPEATS     reads, checks, readies, joins and flattens each of them
 //!     driver stack FILE REPEATS     the stack that each call writes to at the most
 //!
 //! `plain` is the unchanged Rust, and what is timed; `probed` is the same with compare/'s probe below it, which counts steps and shows the state.
 
-use plain::vm::{StandardInterpreter, StandardOp, StandardProgram, TestingDevice, VirtualMachineProgram};
+use plain::vm::{Device, StandardDevice, StandardInterpreter, StandardOp, StandardProgram, TestingDevice, VirtualMachineProgram};
 use probed::patch::Reader;
 use std::hint::black_box;
 use std::time::Instant;
@@ -122,12 +123,11 @@ fn same(a: u64, b: u64) -> bool {
 }
 
 /// The steps of the patch, once both machines agree on them, op by op, on the outputs and on the state they leave. The Rust steps over comments too, and those
-/// steps are not counted.
-fn agreed(c: &Case, lent: &mut Lent) -> u64 {
+/// steps are not counted. `output` has what it put.
+fn agreed<T: probed::vm::Device>(c: &Case, lent: &mut Lent, device: T, output: fn(&T) -> Vec<i64>) -> u64 {
     let number = lent.run(c);
     assert_eq!(number, 0, "{}: our machine answers {number} at {}", c.name, lent.answer[1]);
     let code = probed::vm::StandardProgram(probed::patch::ops(&c.patch).unwrap().0);
-    let device = probed::vm::TestingDevice::new_raw(c.inputs.iter().map(|v| *v as i64).collect());
     let mut vm = probed::vm::StandardInterpreter::new(device);
     let mut steps = 0;
     let mut tally = vec![0; code.0.len()];
@@ -148,7 +148,7 @@ fn agreed(c: &Case, lent: &mut Lent) -> u64 {
     for (i, v) in lent.tape.iter().enumerate() {
         assert!(same(p.cells.get(i).copied().unwrap_or(0) as u64, *v), "{}: cell {i}", c.name);
     }
-    let out = p.device.output_vals();
+    let out = output(p.device);
     assert_eq!(out.len() as u64, lent.answer[3], "{}: outputs", c.name);
     for (i, v) in out.iter().enumerate() {
         assert!(same(*v as u64, lent.output[i]), "{}: output {i}", c.name);
@@ -159,8 +159,8 @@ fn agreed(c: &Case, lent: &mut Lent) -> u64 {
 /// Nanoseconds of the Rust's own run: the program is built outside, and the interpreter is new each time. It is a function of its own in the program,
 /// so that `bench/run counts` can find it.
 #[inline(never)]
-fn rust_run(code: &StandardProgram, inputs: &[i64]) -> (f64, TestingDevice) {
-    let vm = StandardInterpreter::new(TestingDevice::new_raw(inputs.to_vec()));
+fn rust_run<T: Device>(code: &StandardProgram, device: T) -> (f64, T) {
+    let vm = StandardInterpreter::new(device);
     let start = Instant::now();
     let device = vm.run(black_box(code)).unwrap();
     (start.elapsed().as_nanos() as f64, device)
@@ -193,10 +193,25 @@ impl Times {
 }
 
 fn runs(cases: &[Case], repeats: usize) {
+    table(cases, repeats, false)
+}
+
+fn calls(cases: &[Case], repeats: usize) {
+    table(cases, repeats, true)
+}
+
+/// The table of runs; of the Rust with its standard device, or else with the testing device.
+fn table(cases: &[Case], repeats: usize, standard: bool) {
     let mut all = vec![];
     for c in cases {
         let mut lent = Lent::new(c);
-        let steps = agreed(c, &mut lent);
+        let steps = if standard {
+            assert!(c.inputs.is_empty() && c.room == 0, "{}: the standard device's input and output are the program's own", c.name);
+            agreed(c, &mut lent, probed::vm::StandardDevice::default(), |_| vec![])
+        } else {
+            let inputs = c.inputs.iter().map(|v| *v as i64).collect();
+            agreed(c, &mut lent, probed::vm::TestingDevice::new_raw(inputs), |device| device.output_vals())
+        };
         let code = StandardProgram(plain::patch::ops(&c.patch).unwrap().0);
         let inputs: Vec<i64> = c.inputs.iter().map(|v| *v as i64).collect();
         all.push((c, lent, steps, code, inputs, Times::new()));
@@ -209,8 +224,10 @@ fn runs(cases: &[Case], repeats: usize) {
                     let number = black_box(lent.run(c));
                     times.ours.push(start.elapsed().as_nanos() as f64);
                     assert_eq!(number, 0);
+                } else if standard {
+                    times.rust.push(rust_run(code, StandardDevice::default()).0);
                 } else {
-                    let (took, device) = rust_run(code, inputs);
+                    let (took, device) = rust_run(code, TestingDevice::new_raw(inputs.to_vec()));
                     times.rust.push(took);
                     assert_eq!(device.output_vals().len() as u64, lent.answer[3]);
                 }
@@ -359,6 +376,7 @@ fn main() {
     let repeats = args[3].parse().unwrap();
     let work = match &args[1][..] {
         "runs" => runs,
+        "calls" => calls,
         "files" => files,
         "stack" => stack,
         other => panic!("no work {other}"),

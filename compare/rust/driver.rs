@@ -15,14 +15,18 @@ mod patch;
 mod side_effects;
 mod vm;
 
-use patch::{file, ops, Reader};
-use side_effects::Output;
+use patch::{binding, file, ops, Reader};
+use side_effects::{FFIBinding, Output};
+use std::collections::VecDeque;
 use std::io::{Read, Write};
 use std::panic::{catch_unwind, AssertUnwindSafe};
-use vm::{CoreOp, StandardInterpreter, StandardOp, StandardProgram, TestingDevice, VirtualMachineProgram};
+use vm::{CoreOp, Device, StandardDevice, StandardInterpreter, StandardOp, StandardProgram, TestingDevice, VirtualMachineProgram};
 
 /// More cells than this are not asked of the Rust.
 const ROOM: usize = 8_000_000;
+
+/// The bits of a NaN that an op gives.
+const NAN: i64 = 0x7FF8000000000000;
 
 /// The greatest step total (02, ask 11).
 const MOST: u64 = 1 << 53;
@@ -85,6 +89,27 @@ fn has_partner(kinds: &[u16], i: usize, at_else: bool) -> bool {
 }
 
 type Vm = StandardInterpreter<TestingDevice>;
+
+/// A call by the Rust's own standard device: it is handed the whole channel, oldest value first, makes the call, and all that then waits in it is
+/// taken back.
+fn by_standard_device(called: FFIBinding, channel: &mut VecDeque<i64>, tape: Option<&mut Vec<i64>>) {
+    let mut device = StandardDevice::default();
+    for value in channel.drain(..) {
+        device.poke(value).unwrap();
+    }
+    device.ffi_call(&called, tape).unwrap();
+    while let Ok(value) = device.peek() {
+        channel.push_back(value);
+    }
+}
+
+/// The testing device, which has no functions of its own, with those of the standard device (02, ask 9).
+fn device(inputs: Vec<i64>) -> TestingDevice {
+    let mut device = TestingDevice::new_raw(inputs);
+    device.ffi.insert(binding(0), |channel, tape| by_standard_device(binding(0), channel, tape));
+    device.ffi.insert(binding(1), |channel, tape| by_standard_device(binding(1), channel, tape));
+    device
+}
 
 /// Number, verdict, kind; then NaNs, whether the lane was named, comments, how a run by mark was put, and whether the total ended the run.
 type Verdict = (usize, String, String, [usize; 5]);
@@ -169,10 +194,17 @@ fn step(vm: &mut Vm, code: &StandardProgram, kinds: &[u16], raw: bool, seen: &mu
     // the NaN rule: what the processor gives is compared as a NaN
     if let StandardOp::Add(n) | StandardOp::Sub(n) | StandardOp::Mul(n) | StandardOp::Div(n) | StandardOp::Rem(n) = &code.0[i] {
         for lane in &mut vm.parts().register[..*n] {
-            if f64::from_bits(*lane as u64).is_nan() && *lane != 0x7FF8000000000000 {
-                *lane = 0x7FF8000000000000;
+            if f64::from_bits(*lane as u64).is_nan() && *lane != NAN {
+                *lane = NAN;
                 seen.nans += 1;
             }
+        }
+    }
+    // a call leaves its result at the back of the channel
+    if let (StandardOp::Call(_), Some(value)) = (&code.0[i], vm.parts().device.ffi_channel.back_mut()) {
+        if f64::from_bits(*value as u64).is_nan() && *value != NAN {
+            *value = NAN;
+            seen.nans += 1;
         }
     }
     "went"
@@ -257,7 +289,7 @@ fn run(r: &mut Reader, fresh: bool, one: bool, raw: bool) -> Verdict {
         return (number, "utf8".into(), no_kind, [0; 5]);
     };
     let code = StandardProgram(code);
-    let mut vm = StandardInterpreter::new(TestingDevice::new_raw(inputs.clone()));
+    let mut vm = StandardInterpreter::new(device(inputs.clone()));
     let mut written = 0;
     if let Some(s) = start {
         if tape.iter().skip(s.counted).any(|c| *c != 0) {

@@ -1,6 +1,6 @@
 //! Patch files for the Rust: the ops of a file, and the file of a list of ops; and the reader of lists.
 
-use crate::side_effects::{Input, InputMode, Output, OutputMode};
+use crate::side_effects::{FFIBinding, Input, InputMode, Output, OutputMode};
 use crate::vm::{CoreOp, StandardOp};
 
 pub struct Reader<'a> {
@@ -58,6 +58,15 @@ fn sink(mode: u8) -> Output {
         0 => Output::stdout_char(),
         1 => Output::stdout_int(),
         _ => Output::new(OutputMode::StderrChar, 0),
+    }
+}
+
+/// The binding of a number (02, ask 9), by the name and the counts that the Rust's standard device has it under.
+pub fn binding(number: u8) -> FFIBinding {
+    match number {
+        0 => FFIBinding::new("square_root".to_string(), 1, 1),
+        1 => FFIBinding::new("add".to_string(), 2, 1),
+        n => panic!("binding {n} in a patch that is expected to be good"),
     }
 }
 
@@ -129,6 +138,7 @@ pub fn ops(patch: &[u8]) -> Option<(Vec<StandardOp>, Vec<u16>)> {
             267 => StandardOp::IsNonNegative(n()),
             275 => StandardOp::Peek,
             276 => StandardOp::Poke,
+            277 => StandardOp::Call(binding(p[0])),
             k => panic!("kind {k} in a patch that is expected to be good"),
         });
         kinds.push(kind);
@@ -216,6 +226,10 @@ pub fn file(code: &[StandardOp]) -> Vec<u8> {
             StandardOp::IsNonNegative(n) => lanes(267, n),
             StandardOp::Peek => record(&mut out, 275, &[]),
             StandardOp::Poke => record(&mut out, 276, &[]),
+            StandardOp::Call(b) => {
+                let number: u16 = (0..=1).find(|n| binding(*n as u8) == *b).unwrap();
+                record(&mut out, 277, &number.to_le_bytes())
+            }
             _ => panic!("an op that no patch holds"),
         }
     }

@@ -4,7 +4,8 @@
     make.py             writes crates/test_files/stdin, the list of files, and crates/test_files/stdout, a line 'number place ops' for each
     make.py --check     says which of them is not what is made here, and writes nothing
 
-The reader below is written from the paper's sections 'Patch file' and 'Numbers given back', and the readings of their open points.
+The reader below is written from the paper's sections 'Patch file' and 'Numbers given back', what 02 changes in them, and the readings of their open
+points.
 
 A file of the list is four lengths of two bytes, low byte first, start, back, more and tail; then start bytes and tail
 bytes. It stands for the start bytes, then more bytes, each the same as the one back bytes before it, then the tail bytes.
@@ -22,11 +23,11 @@ import command  # noqa: E402
 
 LONGEST, MOST_OPS, MOST_MARKS, MOST_LANES = 65536, 4096, 256, 1024
 
-COMMENT, SETS, FUNCTION, MOVE, OFFSET, DEVICE = 0, (1, 256), 2, 11, 16, (38, 39)
+COMMENT, SETS, FUNCTION, MOVE, OFFSET, DEVICE, FFI = 0, (1, 256), 2, 11, 16, (38, 39), 277
 KNOWN = [*range(40), *range(256, 278)]
-LEFT_OUT = [*range(268, 275), 277]
+LEFT_OUT = [*range(268, 275)]
 EMPTY = [*range(2, 9), 12, 13, 14, 257, 258, 275, 276]
-COUNTED = [kind for kind in KNOWN if kind not in [COMMENT, *SETS, MOVE, OFFSET, *DEVICE, *LEFT_OUT, *EMPTY]]
+COUNTED = [kind for kind in KNOWN if kind not in [COMMENT, *SETS, MOVE, OFFSET, *DEVICE, FFI, *LEFT_OUT, *EMPTY]]
 
 
 def fits(kind, size):
@@ -37,7 +38,7 @@ def fits(kind, size):
         return size % 8 == 0
     if kind in COUNTED:
         return size == 4
-    return size == {MOVE: 8, OFFSET: 12, 38: 2, 39: 2}.get(kind, 0)
+    return size == {MOVE: 8, OFFSET: 12, 38: 2, 39: 2, FFI: 2}.get(kind, 0)
 
 
 def fault(data, at):
@@ -72,6 +73,9 @@ def fault(data, at):
             return 6
         if mode == 2:
             return 4
+    # 02, ask 9: 0 is square_root, 1 is add
+    if kind == FFI and unpack_from("<H", data, at + 6)[0] > 1:
+        return 6
     return 0
 
 
@@ -109,7 +113,7 @@ def usual(kind):
         return pack("<q", -3)
     if kind in COUNTED:
         return pack("<I", 5)
-    return {MOVE: pack("<q", -1), OFFSET: pack("<qI", 7, 2), 38: pack("<H", 1), 39: pack("<H", 0)}.get(kind, b"")
+    return {MOVE: pack("<q", -1), OFFSET: pack("<qI", 7, 2), 38: pack("<H", 1), 39: pack("<H", 0), FFI: pack("<H", 1)}.get(kind, b"")
 
 
 FREE, MARK = record(258), record(FUNCTION)
@@ -190,7 +194,7 @@ def order(files):
             files.add(FREE + pack("<IH", length, kind))
         files.add(pack("<I", length))
         files.add(pack("<I", length)[:3])
-    for kind in LEFT_OUT:
+    for kind in [*LEFT_OUT, FFI]:
         files.add(record(kind, b"\0\0\0\0\0"))
         files.add(pack("<IH", 5, kind) + b"\0\0")
     for kind in (40, 278):
@@ -219,12 +223,43 @@ def order(files):
     files.repeat(MARK * 255, FREE, 3840, MARK + MARK)
 
 
+def bindings(files):
+    """FFI Call (02, ask 9): payloads of every length, numbers that there are and are not, and each fault beside others."""
+    for size in range(13):
+        files.add(FREE + record(FFI, (b"\1\0" * 7)[:size]) + FREE)
+    for number in (0, 1, 2, 3, 4, 5, 255, 256, 257, 258, 259, 512, 0x7FFF, 0x8000, 0x8001, 0xFFFE, 0xFFFF):
+        files.add(record(FFI, pack("<H", number)))
+        files.add(FREE + record(FFI, pack("<H", number)) + record(40))
+    good = MARK + record(FFI, pack("<H", 0)) + record(FFI, pack("<H", 1)) + FREE
+    for end in range(len(good)):
+        files.add(good[:end])
+    for place in range(len(good)):
+        for flip in (0x01, 0x02, 0x80):
+            files.add(good[:place] + bytes([good[place] ^ flip]) + good[place + 1:])
+    # a wrong length before a wrong number, both before one op too many
+    for payload in (b"", b"\2", b"\2\0\0", b"\4\0\0\0", b"\2\0", b"\1\0", b"\0\0\0\0"):
+        files.repeat(b"", FREE, 4096, record(FFI, payload))
+        files.repeat(b"", FREE, 4095, record(FFI, payload))
+        files.repeat(b"", MARK, 256, record(FFI, payload))
+        files.add(record(FFI, payload) + record(39, pack("<H", 2)))
+        files.add(record(39, pack("<H", 4)) + record(FFI, payload))
+    files.repeat(b"", record(FFI, pack("<H", 1)), 4096)
+    files.repeat(b"", record(FFI, pack("<H", 1)), 4097)
+
+
 def strewn(files):
-    """Random good files, and each again with one byte changed."""
+    """Random good files, and each again with one byte changed; then some with calls among their ops."""
     dice = random.Random(1)
-    good_kinds = [kind for kind in KNOWN if kind not in LEFT_OUT]
+    good_kinds = [kind for kind in KNOWN if kind not in LEFT_OUT and kind != FFI]
     for _ in range(100):
         good = b"".join(record(kind, usual(kind)) for kind in dice.choices(good_kinds, k=dice.randrange(1, 6)))
+        files.add(good)
+        place = dice.randrange(len(good))
+        files.add(good[:place] + bytes([dice.randrange(256)]) + good[place + 1:])
+    for _ in range(30):
+        ops = [record(kind, usual(kind)) for kind in dice.choices(good_kinds, k=dice.randrange(1, 4))] + [record(FFI, pack("<H", dice.randrange(2)))]
+        dice.shuffle(ops)
+        good = b"".join(ops)
         files.add(good)
         place = dice.randrange(len(good))
         files.add(good[:place] + bytes([dice.randrange(256)]) + good[place + 1:])
@@ -237,7 +272,7 @@ def main(args):
     files = Files()
     files.add(b"")
     files.add(PAPER)
-    for group in (kinds, damage, limits, order, strewn):
+    for group in (kinds, damage, limits, order, bindings, strewn):
         group(files)
     numbers = [int(answer.split()[0]) for answer in files.answers]
     words = "%d files; " % len(numbers) + ", ".join("%d: %d" % (n, numbers.count(n)) for n in sorted(set(numbers)))

@@ -169,6 +169,7 @@ module _ (s : List ℕ) (i : ℕ) (h : i < length (codeOf s .rows)) where
         by = λ e. bytes-in 8 12 (omega arith) (fitted row.offset e);
         gets = λ e. bytes-in 2 2 (omega arith) (fitted row.get e);
         puts = λ e. bytes-in 2 2 (omega arith) (fitted row.put e);
+        binds = λ e. bytes-in 2 2 (omega arith) (fitted row.standardCall e);
       }
 
 -- the payloads of a good file lie in its bytes, and its counts are within the limit

@@ -1,4 +1,4 @@
--- Get, Put, Peek and Poke are the model's, laid. Assumes nothing.
+-- Get, Put, Peek, Poke and FFI Call are the model's, laid. Assumes nothing.
 use mathlib.Core.Path.{_≡_, _∙_, refl}
 use mathlib.Core.Bool.{true}
 use mathlib.Core.List.{List, [], _∷_, _++_, append-nil}
@@ -6,22 +6,25 @@ use Prim.Native.Nat.{ℕ, zero, suc, _+_, _-_, _%_, _≤_, _<_}
 use native.Mathlib.Omega.{arith}
 use native.Mathlib.Nat.{add-zero}
 use native.Mathlib.Numerals.{add-one}
-use lib.Dec.{leb, eqb, eqb·suc-zero}
+use lib.Dec.{leb, ltb, eqb, eqb·suc-zero}
 use lib.ListN.{length, getD, take, drop, length-append}
 use lib.ListN
 use lib.Seq.{getD-take, length-take-le, take-at, take-set-lt}
-use borrow.Author.Tests.{leb-true, leb-false, le-leb, lt-ltb, le-ltb, eqb-true, eqb-false}
+use borrow.Author.Tests.{leb-true, leb-false, ltb-false, le-leb, lt-ltb, le-ltb, eqb-true, eqb-false}
 use Rattle.basics.proofs.Tests.{byCase}
-use Rattle.ops.specs.Syntax.Plain.{get, put, peek, poke}
+use Rattle.ops.specs.Syntax.Plain.{get, put, peek, poke, ffiCall}
 use Rattle.ops.specs.declared.op.Mode.{Mode}
+use Rattle.ops.specs.declared.op.Binding.{Binding}
 use Rattle.testing_device.specs.Device.{getOf, putOf, ring}
 use Rattle.testing_device.specs.Room.{putIn, placed}
 use Rattle.testing_device.specs.Channel.{isRing, pokeIn}
 use Rattle.testing_device.specs.declared.device.Got.{Got}
 use Rattle.testing_device.specs.declared.device.Got.the-variants as got
-use Rattle.testing_device.proofs.Rings.{length-ring, ring-next, ring-poke, ring-same, ring-laid, peek-none, peek-some}
+use Rattle.testing_device.proofs.Rings.{length-ring, ring-next, ring-drop, ring-poke, ring-same, ring-laid, peek-none, peek-some}
+use Rattle.standard_device.specs.Bindings.{inputs, resultOf, callIn}
+use Rattle.standard_device.proofs.Values.{inputs-few}
 use Rattle.machine_model.specs.State.{Given, on, withOuts, withChannel}
-use Rattle.machine_model.specs.Step.{act, bar, gotten, write, peekAt}
+use Rattle.machine_model.specs.Step.{act, bar, gotten, write, peekAt, firstAfter}
 use Rattle.machine_model.specs.Step.Outcome.{next}
 use Rattle.machine_numbers.specs.Numbers as m
 use Rattle.device_ops.specs.Device as d
@@ -51,7 +54,7 @@ module _ (g : Given) (c : Held) (h : Counted c) where
       let n = c .numbers .written in let l = c .output in let o = over-same c h in
       let e : length (take n l ++ vs) ≡ n + length vs = rw (length-append, length-take-le n l (h .written)) refl in
       meets c _ _
-      (record { calls = o .calls; refs = o .refs; register = o .register; table = o .table; output = laid-fill (take n l ++ vs) l (n + length vs) e b; channel = o .channel; head = o .head; mode = refl })
+      (record { calls = o .calls; refs = o .refs; register = o .register; table = o .table; output = laid-fill (take n l ++ vs) l (n + length vs) e b; channel = o .channel; mode = refl })
       (rw (take-at (take n l ++ vs) (drop (n + length vs) l) (n + length vs) e, add-one (c .numbers .position)) refl)
 
   -- values put: "all or none"
@@ -92,7 +95,7 @@ module _ (g : Given) (c : Held) (h : Counted c) where
   peek-went w k =
       let p = c .numbers in let o = over-same c h in let v = getD (c .channel) (p .first) 0 in
       meets c _ _
-      (record { calls = o .calls; refs = o .refs; register = laid-set (c .register) (p .lanes) 0 v w (h .lanes); table = o .table; output = o .output; channel = ring-same (c .channel) ((p .first + 1) % 256) (p .waiting - 1); head = omega arith; mode = refl })
+      (record { calls = o .calls; refs = o .refs; register = laid-set (c .register) (p .lanes) 0 v w (h .lanes); table = o .table; output = o .output; channel = ring-same (c .channel) ((p .first + 1) % 256) (p .waiting - 1); mode = refl })
       (rw (take-set-lt (p .lanes) (c .register) 0 v w, add-one (c .numbers .position)) refl)
 
   no-values : c .numbers .waiting ≡ 0 → record { number = 33; lane = 0; held = c } ≡ laid c (peekAt (view c) (ring (c .channel) (c .numbers .first) (c .numbers .waiting)))
@@ -110,11 +113,11 @@ module _ (g : Given) (c : Held) (h : Counted c) where
 
   poke-went : (v : ℕ) → c .numbers .waiting < 256
       → went (held (m.next (m.ofRing (c .numbers) (c .numbers .first) (c .numbers .waiting + 1))) (c .calls) (c .refs) (c .register) (c .tape) (c .table) (lib.ListN.set (c .channel) ((c .numbers .first + c .numbers .waiting) % 256) v) (c .output))
-      ≡ laid c (next (on (withChannel (view c) (view c .channel ++ (v ∷ [])))))
+      ≡ laid c (next (on (withChannel (view c) (view c .first) (view c .channel ++ (v ∷ [])))))
   poke-went v k =
       let o = over-same c h in let l = c .channel in let f = c .numbers .first in let n = c .numbers .waiting in
       meets c _ _
-      (record { calls = o .calls; refs = o .refs; register = o .register; table = o .table; output = o .output; channel = rw (add-one n) (ring-laid l f n v k (h .ringed)); head = let b = h .first in omega arith; mode = refl })
+      (record { calls = o .calls; refs = o .refs; register = o .register; table = o .table; output = o .output; channel = rw (add-one n) (ring-laid l f n v k (h .ringed)); mode = refl })
       (rw (add-one n, ring-poke l f n v k (h .ringed), add-one (c .numbers .position)) refl)
 
   pub poke-is : 0 < c .numbers .lanes → telling c (d.inChannel (c .register) (c .output) (d.pokingOf (c .numbers) (c .register) (c .channel))) ≡ laid c (act g poke (view c))
@@ -125,3 +128,23 @@ module _ (g : Given) (c : Held) (h : Counted c) where
       byCase (leb 256 n)
       (λ e. rw (ringed, length-ring (c .channel) f n, e) refl)
       (λ e. rw (ringed, length-ring (c .channel) f n, e, l) (poke-went v (leb-false 256 n e)))
+
+  -- the oldest k taken, and a value sent behind the rest
+  call-went : (k v : ℕ) → 1 ≤ k → k ≤ c .numbers .waiting
+      → went (held (m.next (m.ofRing (c .numbers) ((c .numbers .first + k) % 256) (c .numbers .waiting - k + 1))) (c .calls) (c .refs) (c .register) (c .tape) (c .table) (lib.ListN.set (c .channel) ((c .numbers .first + c .numbers .waiting) % 256) v) (c .output))
+      ≡ laid c (next (on (withChannel (view c) (firstAfter (view c) k) (drop k (view c .channel) ++ (v ∷ [])))))
+  call-went k v a b =
+      let o = over-same c h in let l = c .channel in let f = c .numbers .first in let n = c .numbers .waiting in
+      let e : (f + n) % 256 ≡ ((f + k) % 256 + (n - k)) % 256 = omega arith in
+      let w : n - k < 256 = let s = h .waiting in omega arith in
+      meets c _ _
+      (record { calls = o .calls; refs = o .refs; register = o .register; table = o .table; output = o .output; channel = rw (e, add-one (n - k)) (ring-laid l ((f + k) % 256) (n - k) v w (h .ringed)); mode = refl })
+      (rw (e, add-one (n - k), ring-poke l ((f + k) % 256) (n - k) v w (h .ringed), ring-drop l f n k b, add-one (c .numbers .position)) refl)
+
+  pub ffi-call-is : (b : Binding) → telling c (d.inChannel (c .register) (c .output) (d.callingOf b (c .numbers) (c .channel))) ≡ laid c (act g (ffiCall b) (view c))
+  unfolding d.callingOf callIn act bar
+  ffi-call-is b =
+      let l = c .channel in let f = c .numbers .first in let n = c .numbers .waiting in
+      byCase (ltb n (inputs b))
+      (λ e. rw (ringed, length-ring l f n, e) refl)
+      (λ e. rw (ringed, length-ring l f n, e) (call-went (inputs b) (resultOf b (ring l f n)) (inputs-few b .0) (ltb-false n (inputs b) e)))

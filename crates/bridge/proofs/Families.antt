@@ -13,7 +13,7 @@ use Rattle.kind_table.specs.Columns.{cellFamily, laneFamily}
 use Rattle.kind_table.specs.Kinds.{indexOf, familyOf}
 use Rattle.ops.specs.Syntax.{Control, Plain, Sort, Op, bracket, isFunction, isWhile, kindOf, controlKind, plainKind, setKind, cellKind, laneKind}
 use Rattle.ops.specs.Syntax.Control.{function, call, ret, while, if, else, end}
-use Rattle.ops.specs.Syntax.Plain.{comment, store, move, swap, locate, offset, deref, refer, cell, lane, get, put, peek, poke, alloc, free}
+use Rattle.ops.specs.Syntax.Plain.{comment, store, move, swap, locate, offset, deref, refer, cell, lane, get, put, peek, poke, ffiCall, alloc, free}
 use Rattle.ops.specs.Syntax.Sort.{ints, floats}
 use Rattle.ops.specs.Syntax.Op.{control, set, load, plain}
 use Rattle.machine_model.specs.Passed.{isComment}
@@ -105,6 +105,7 @@ plain-row (get d) = search
 plain-row (put d) = search
 plain-row peek = search
 plain-row poke = search
+plain-row (ffiCall b) = search
 plain-row alloc = search
 plain-row free = search
 

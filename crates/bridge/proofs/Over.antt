@@ -2,7 +2,7 @@
 use mathlib.Core.Path.{_≡_, _∙_, refl, ap, sym}
 use mathlib.Core.Bool.{Bool}
 use mathlib.Core.List.{List}
-use Prim.Native.Nat.{ℕ, _≤_}
+use Prim.Native.Nat.{ℕ, _≤_, _<_}
 use native.Mathlib.Omega.{arith}
 use lib.ListN.{length, drop, length-append, length-drop}
 use lib.Seq.{take-append-seam}
@@ -13,7 +13,7 @@ use Rattle.machine_model.specs.State.{State}
 use Rattle.machine_model.specs.Step.Outcome.{next}
 use Rattle.machine_numbers.specs.declared.numbers.Numbers.{Numbers}
 use Rattle.machine_step.specs.Held.{Held, held, After}
-use Rattle.bridge.specs.View.{view, lay, laid, headOf}
+use Rattle.bridge.specs.View.{view, lay, laid}
 use Rattle.bridge.specs.Fits.{Counted}
 use Rattle.bridge.proofs.Lists.{Laid, laid-same}
 
@@ -25,7 +25,6 @@ pub record Over (c d : Held) : Type 0 where
   pub table : Laid (d .numbers .functions) (c .table) (d .table)
   pub output : Laid (d .numbers .written) (c .output) (d .output)
   pub channel : fillRing (c .channel) (d .numbers .first) (ring (d .channel) (d .numbers .first) (d .numbers .waiting)) ≡ d .channel
-  pub head : headOf (c .numbers) (d .numbers .waiting) ≡ d .numbers .first
   pub mode : c .numbers .mode ≡ d .numbers .mode
 
 -- what agrees part by part is the same
@@ -37,14 +36,13 @@ pub over-lay : (c d : Held) → Over c d → lay (view d) c ≡ d
 unfolding lay
 over-lay c d o =
     let w = length-ring (d .channel) (d .numbers .first) (d .numbers .waiting) in
-    let f = ap (λ (n : ℕ). headOf (c .numbers) n) w ∙ o .head in
-    alike (rw (w, o .head, o .mode, o .calls .count, o .refs .count, o .register .count, o .table .count, o .output .count) refl)
+    alike (rw (w, o .mode, o .calls .count, o .refs .count, o .register .count, o .table .count, o .output .count) refl)
     (o .calls .whole)
     (o .refs .whole)
     (o .register .whole)
     refl
     (o .table .whole)
-    (ap (λ (n : ℕ). fillRing (c .channel) n (view d .channel)) f ∙ o .channel)
+    (o .channel)
     (o .output .whole)
 
 abbrev pub went : Held → After
@@ -65,7 +63,6 @@ module _ (c : Held) (h : Counted c) where
         table = laid-same _ _ (h .functions);
         output = laid-same _ _ (h .written);
         channel = ring-same _ _ _;
-        head = let f = h .first in omega arith;
         mode = refl;
       }
 
@@ -76,7 +73,7 @@ module _ (c : Held) (h : Counted c) where
       (record { depth = c .numbers .depth; saved = c .numbers .saved; pointer = pt; position = at; length = len; lanes = n; functions = c .numbers .functions; first = c .numbers .first; waiting = c .numbers .waiting; taken = k; written = c .numbers .written; halted = b; mode = c .numbers .mode })
       (c .calls) (c .refs) r t (c .table) (c .channel) (c .output))
   over-reg at pt len n k b r t l =
-      let o = over-same in record { calls = o .calls; refs = o .refs; register = l; table = o .table; output = o .output; channel = o .channel; head = o .head; mode = refl }
+      let o = over-same in record { calls = o .calls; refs = o .refs; register = l; table = o .table; output = o .output; channel = o .channel; mode = refl }
 
   -- the numbers and the tape
   pub over-num : (at pt len k : ℕ) (b : Bool) (t : List ℕ)
@@ -93,7 +90,7 @@ module _ (c : Held) (h : Counted c) where
       (record { depth = d; saved = c .numbers .saved; pointer = c .numbers .pointer; position = at; length = c .numbers .length; lanes = c .numbers .lanes; functions = u; first = c .numbers .first; waiting = c .numbers .waiting; taken = c .numbers .taken; written = c .numbers .written; halted = b; mode = c .numbers .mode })
       cs (c .refs) (c .register) (c .tape) ts (c .channel) (c .output))
   over-calls at d u b cs ts l m =
-      let o = over-same in record { calls = l; refs = o .refs; register = o .register; table = m; output = o .output; channel = o .channel; head = o .head; mode = refl }
+      let o = over-same in record { calls = l; refs = o .refs; register = o .register; table = m; output = o .output; channel = o .channel; mode = refl }
 
   -- the numbers and the saved pointers
   pub over-refs : (at pt len d : ℕ) (rs : List ℕ) → Laid d (c .refs) rs
@@ -102,7 +99,7 @@ module _ (c : Held) (h : Counted c) where
       (record { depth = c .numbers .depth; saved = d; pointer = pt; position = at; length = len; lanes = c .numbers .lanes; functions = c .numbers .functions; first = c .numbers .first; waiting = c .numbers .waiting; taken = c .numbers .taken; written = c .numbers .written; halted = c .numbers .halted; mode = c .numbers .mode })
       (c .calls) rs (c .register) (c .tape) (c .table) (c .channel) (c .output))
   over-refs at pt len d rs l =
-      let o = over-same in record { calls = o .calls; refs = l; register = o .register; table = o .table; output = o .output; channel = o .channel; head = o .head; mode = refl }
+      let o = over-same in record { calls = o .calls; refs = l; register = o .register; table = o .table; output = o .output; channel = o .channel; mode = refl }
 
 -- what is laid is seen: of the counts only the ring's is asked
 pub view-lay : (s : State) (c : Held) → length (s .channel) ≤ 256 → 256 ≤ length (c .channel) → view (lay s c) ≡ s
@@ -114,7 +111,7 @@ view-lay s c w b =
       take-append-seam (s .reg) (drop (length (s .reg)) (c .register)),
       take-append-seam (s .table) (drop (length (s .table)) (c .table)),
       take-append-seam (s .outs) (drop (length (s .outs)) (c .output)),
-      ring-fill (s .channel) (c .channel) (headOf (c .numbers) (length (s .channel))) w b,
+      ring-fill (s .channel) (c .channel) (s .first) w b,
     ) refl
 
 fill-fits : (new old : List ℕ) → length new ≤ length (fill new old)
@@ -135,17 +132,17 @@ unfolding lay
 lay-room s c h = fill-same (s .outs) (c .output) h
 
 -- a state within its limits, laid over what is as large as them
-pub lay-counted : (s : State) (c : Held) → length (s .calls) ≤ 256 → length (s .refs) ≤ 256 → length (s .channel) ≤ 256 → length (s .outs) ≤ length (c .output)
+pub lay-counted : (s : State) (c : Held) → length (s .calls) ≤ 256 → length (s .refs) ≤ 256 → length (s .channel) ≤ 256 → s .first < 256 → length (s .outs) ≤ length (c .output)
     → 1024 ≤ length (c .register) → 256 ≤ length (c .table) → 256 ≤ length (c .channel) → length (c .calls) ≡ 256 → length (c .refs) ≡ 256 → Counted (lay s c)
 unfolding lay
-lay-counted s c cs rs w o g t ch kc kr =
+lay-counted s c cs rs w f o g t ch kc kr =
     record {
       wide = fill-wide 1024 (s .reg) (c .register) g;
       tabled = fill-wide 256 (s .table) (c .table) t;
       ringed = rw length-fillRing ch;
       call-room = fill-same (s .calls) (c .calls) (omega arith) ∙ kc;
       ref-room = fill-same (s .refs) (c .refs) (omega arith) ∙ kr;
-      first = omega arith;
+      first = f;
       lanes = fill-fits (s .reg) (c .register);
       functions = fill-fits (s .table) (c .table);
       depth = cs;

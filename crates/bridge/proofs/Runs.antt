@@ -60,7 +60,7 @@ module _ (s input : List ℕ) where
       → Formed (givenTo s input c) t → Fits s input (lay t c)
   lay-over t c w u r kc kr f =
       record {
-        counted = lay-counted t c (f .few-calls) (f .few-refs) (f .few-sent) (f .fits) w u r kc kr;
+        counted = lay-counted t c (f .few-calls) (f .few-refs) (f .few-sent) (f .in-ring) (f .fits) w u r kc kr;
         formed = rw (lay-given t c (f .fits), view-lay t c (f .few-sent) r) f;
       }
 

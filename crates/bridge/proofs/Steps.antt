@@ -13,10 +13,10 @@ use Rattle.byte_fields.specs.Bytes.{u16At, u64At}
 use Rattle.kind_table.specs.Kinds.{indexOf, familyOf}
 use Rattle.ops.specs.Syntax.{Control, Plain, Op, isFunction, needs, kindOf, plainKind, controlKind}
 use Rattle.ops.specs.Syntax.Control.{function, call, ret, while, if, else, end}
-use Rattle.ops.specs.Syntax.Plain.{comment, store, move, swap, locate, offset, deref, refer, cell, lane, get, put, peek, poke, alloc, free}
+use Rattle.ops.specs.Syntax.Plain.{comment, store, move, swap, locate, offset, deref, refer, cell, lane, get, put, peek, poke, ffiCall, alloc, free}
 use Rattle.ops.specs.Syntax.Sort.{ints, floats}
 use Rattle.ops.specs.Syntax.Op.{control, set, load, plain}
-use Rattle.ops.specs.Decode.{modeIn, rowAt, opWith, plainWith, opCount, plainCount}
+use Rattle.ops.specs.Decode.{modeIn, bindingIn, rowAt, opWith, plainWith, opCount, plainCount}
 use Rattle.ops.specs.Decode as file
 use Rattle.file_laws.proofs.Meaning.{means}
 use Rattle.machine_model.specs.State.{Given}
@@ -36,7 +36,7 @@ use Rattle.bridge.proofs.Families.{cell-row, lane-row}
 use Rattle.bridge.proofs.Control.{Rows, function-is, call-is, ret-is, while-is, if-is, else-is, end-is}
 use Rattle.bridge.proofs.Tape.{next-is, set-is, load-is, store-is, move-is, where-is, deref-is, refer-is, alloc-is}
 use Rattle.bridge.proofs.Lanes.{cell-is, swap-is, alone-is, offset-is}
-use Rattle.bridge.proofs.Device.{get-is, put-is, peek-is, poke-is}
+use Rattle.bridge.proofs.Device.{get-is, put-is, peek-is, poke-is, ffi-call-is}
 use Rattle.bridge.proofs.Decoded.{itemOf, row-of, rows, op-is-item, kind-is, count-is, place-is, need-is, is-item, few, few-entered, bytes-are}
 
 -- an op of any row, with n what its payload counts
@@ -70,6 +70,7 @@ module _ (g : Given) (ks bs : List ℕ) (n a : ℕ) (c : Held) (h : Counted c) (
   plain-op (put d) e w = put-is g c h (modeIn (u16At bs a)) room w
   plain-op peek e w = peek-is g c h w
   plain-op poke e w = poke-is g c h w
+  plain-op (ffiCall b) e w = ffi-call-is g c h (bindingIn (u16At bs a))
   plain-op alloc e w = alloc-is g c h w
   plain-op free e w = next-is g c h
 

@@ -1,15 +1,11 @@
 -- What a machine and its lent slices stand for (`view`), and a state written over them (`lay`), so that entries outside the counts keep
 -- their values; so does the call mode, which no step changes. Assumes nothing.
-use mathlib.Core.List.{List}
-use Prim.Native.Nat.{ℕ, _+_, _-_, _%_}
 use lib.ListN.{length, take}
-use Rattle.basics.specs.Limits as limit
 use Rattle.byte_fields.specs.Storage.{fill}
 use Rattle.testing_device.specs.Device.{ring, fillRing}
 use Rattle.machine_model.specs.State.{State}
 use Rattle.machine_model.specs.Step.{Outcome}
 use Rattle.machine_model.specs.Step.Outcome.{finished, refused, next}
-use Rattle.machine_numbers.specs.declared.numbers.Numbers.{Numbers}
 use Rattle.machine_step.specs.Held.{Held, After}
 
 abbrev pub view : Held → State
@@ -24,14 +20,11 @@ view c =
       calls = take (c .numbers .depth) (c .calls);
       refs = take (c .numbers .saved) (c .refs);
       channel = ring (c .channel) (c .numbers .first) (c .numbers .waiting);
+      first = c .numbers .first;
       taken = c .numbers .taken;
       outs = take (c .numbers .written) (c .output);
       halted = c .numbers .halted;
     }
-
--- the ring's first place after a step: a step takes one value at most, and then has one fewer
-abbrev pub headOf : Numbers → ℕ → ℕ
-headOf p n = (p .first + (p .waiting - n)) % limit.depth
 
 unfoldable pub lay : State → Held → Held
 lay s c =
@@ -44,7 +37,7 @@ lay s c =
         length = s .counted;
         lanes = length (s .reg);
         functions = length (s .table);
-        first = headOf (c .numbers) (length (s .channel));
+        first = s .first;
         waiting = length (s .channel);
         taken = s .taken;
         written = length (s .outs);
@@ -56,7 +49,7 @@ lay s c =
       register = fill (s .reg) (c .register);
       tape = s .tape;
       table = fill (s .table) (c .table);
-      channel = fillRing (c .channel) (headOf (c .numbers) (length (s .channel))) (s .channel);
+      channel = fillRing (c .channel) (s .first) (s .channel);
       output = fill (s .outs) (c .output);
     }
 

@@ -3,6 +3,7 @@ use mathlib.Core.Path.{_≡_, _∙_, sym, ap}
 use mathlib.Core.List.{List}
 use Prim.Native.Nat.{ℕ}
 use Rattle.ops.specs.declared.op.Mode.{Mode}
+use Rattle.ops.specs.declared.op.Binding.{Binding}
 use Rattle.testing_device.specs.Device.{getOf, putOf}
 use Rattle.testing_device.specs.Room.{Left, left, putIn}
 use Rattle.testing_device.specs.Channel.{PokeLeft, pokeLeft, peekOf, pokeIn}
@@ -10,6 +11,8 @@ use Rattle.testing_device.specs.declared.device.Got.{Got}
 use Rattle.testing_device.specs.declared.device.Put.{Put}
 use Rattle.testing_device.specs.declared.device.Peeked.{Peeked}
 use Rattle.testing_device.specs.declared.device.Poked.{Poked}
+use Rattle.standard_device.specs.Bindings.{CallLeft, callLeft, callIn}
+use Rattle.standard_device.specs.declared.bindings.Called.{Called}
 
 pub get-coincides : (m : Mode) (input : List ℕ) (at : ℕ) (a b : Got) → a ≡ getOf m input at → b ≡ getOf m input at → a ≡ b
 get-coincides m input at a b e f = e ∙ sym f
@@ -24,3 +27,7 @@ peek-coincides ch first waiting a b e f = e ∙ sym f
 pub poke-coincides : (v : ℕ) (ch : List ℕ) (first waiting : ℕ) (a b : Poked) (p q : List ℕ) → pokeLeft a p ≡ pokeIn v ch first waiting → pokeLeft b q ≡ pokeIn v ch first waiting
     → (a ≡ b) × (p ≡ q)
 poke-coincides v ch first waiting a b p q e f = (ap (λ (h : PokeLeft). h .answer) (e ∙ sym f), ap (λ (h : PokeLeft). h .channel) (e ∙ sym f))
+
+pub ffi-call-coincides : (k : Binding) (ch : List ℕ) (first waiting : ℕ) (a b : Called) (p q : List ℕ) → callLeft a p ≡ callIn k ch first waiting → callLeft b q ≡ callIn k ch first waiting
+    → (a ≡ b) × (p ≡ q)
+ffi-call-coincides k ch first waiting a b p q e f = (ap (λ (h : CallLeft). h .answer) (e ∙ sym f), ap (λ (h : CallLeft). h .channel) (e ∙ sym f))

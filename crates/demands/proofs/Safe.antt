@@ -96,7 +96,7 @@ module _ (g : Given) (rules : KeepsRules (g .ops)) where
         enough = after j (length (s .reg)) (landing-below (g .ops) j (p .0)) (omega (arith, asks-one c, leaves-one (opAt (g .ops) j) (known lanes (g .ops) j) (p .0)));
         places = p .1;
       }
-  keeps s _ o is i (acts p n r m rs ch k os h e w z) =
+  keeps s _ o is i (acts p n r m rs ch j k os h e w z) =
       record {
         enough = after (s .at) (length r) h (rw (is, e) (leaves-made o (known lanes (g .ops) (s .at)) (length (s .reg)) (i .enough) (rw is at (asked s i h))));
         places = i .places;

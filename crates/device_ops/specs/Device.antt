@@ -1,4 +1,4 @@
--- Get, Put, Peek and Poke on the machine's numbers: "21, then theirs". g is the register, ch the channel, o the output. Assumes nothing.
+-- Get, Put, Peek, Poke and FFI Call on the machine's numbers: "21, then theirs". g is the register, ch the channel, o the output. Assumes nothing.
 use mathlib.Core.List.{List}
 use Prim.Native.Nat.{ℕ}
 use lib.ListN.{getD, set}
@@ -6,8 +6,9 @@ use lib.Dec.{eqb}
 use Rattle.basics.specs.Pick.{pick}
 use Rattle.kind_table.specs.Rows as row
 use Rattle.byte_fields.specs.Bytes.{u16At}
-use Rattle.ops.specs.Decode.{modeIn}
+use Rattle.ops.specs.Decode.{modeIn, bindingIn}
 use Rattle.ops.specs.declared.op.Mode.{Mode}
+use Rattle.ops.specs.declared.op.Binding.{Binding}
 use Rattle.testing_device.specs.Device.{getOf, putOf}
 use Rattle.testing_device.specs.Room.{Left, putIn}
 use Rattle.testing_device.specs.Channel.{peekOf, pokeIn}
@@ -20,6 +21,9 @@ use Rattle.testing_device.specs.declared.device.Peeked.{Peeked}
 use Rattle.testing_device.specs.declared.device.Peeked.the-variants as peeked
 use Rattle.testing_device.specs.declared.device.Poked.{Poked}
 use Rattle.testing_device.specs.declared.device.Poked.the-variants as poked
+use Rattle.standard_device.specs.Bindings.{calledNumber, callIn}
+use Rattle.standard_device.specs.declared.bindings.Called.{Called}
+use Rattle.standard_device.specs.declared.bindings.Called.the-variants as called
 use Rattle.machine_numbers.specs.Numbers.{ofRing, ofTaken, ofWritten, next, answered, OneList, oneList, Told, told, OpAnswer}
 use Rattle.machine_numbers.specs.declared.numbers.Numbers.{Numbers}
 
@@ -61,6 +65,17 @@ pokingOf p g ch =
     let h = pokeIn (getD g 0 0) ch (p .first) (p .waiting) in
     oneList (poking p (h .answer)) (h .channel)
 
+-- the ring after an FFI Call; 33 where too few values wait; 37 where it is no ring
+abbrev pub calling : Numbers → Called → OpAnswer
+calling p (called.Sent f w) = answered 0 (next (ofRing p f w))
+calling p called.TooFew = answered (calledNumber called.TooFew) p
+calling p called.NotARing = answered (calledNumber called.NotARing) p
+
+unfoldable pub callingOf : Binding → Numbers → List ℕ → OneList
+callingOf b p ch =
+    let h = callIn b ch (p .first) (p .waiting) in
+    oneList (calling p (h .answer)) (h .channel)
+
 -- a list's change among the three
 abbrev pub inLanes : List ℕ → List ℕ → OneList → Told
 inLanes ch o l = told (l .answer) (l .list) ch o
@@ -78,4 +93,5 @@ deviceOf k a p g ch input o bs =
     pick (eqb k row.get) (inLanes ch o (gettingOf (modeIn (u16At bs a)) p g input))
     (pick (eqb k row.put) (inOutput g ch (puttingOf (modeIn (u16At bs a)) p g o))
     (pick (eqb k row.peek) (inLanes ch o (peekingOf p g ch))
-    (inChannel g o (pokingOf p g ch))))
+    (pick (eqb k row.poke) (inChannel g o (pokingOf p g ch))
+    (inChannel g o (callingOf (bindingIn (u16At bs a)) p ch)))))

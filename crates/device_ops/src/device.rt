@@ -1,13 +1,15 @@
-// Get, Put, Peek and Poke. Each is lent the numbers that it may change; its contract is over any numbers p of a machine, with these among them.
+// Get, Put, Peek, Poke and FFI Call. Each is lent the numbers that it may change; its contract is over any numbers p of a machine, with these among them.
 ghost use mathlib.Core.Path.{_≡_};
 ghost use Prim.Native.Nat.{_≤_};
 ghost use lib.ListN.{length};
 ghost use Rattle.basics.specs.Limits as limit;
 ghost use Rattle.machine_numbers.specs.declared.numbers.Numbers.{Numbers};
 ghost use Rattle.machine_numbers.specs.Numbers.{ofRing, ofTaken, ofWritten, onward, oneList};
-ghost use Rattle.device_ops.specs.Device.{gettingOf, puttingOf, peekingOf, pokingOf};
+ghost use Rattle.device_ops.specs.Device.{gettingOf, puttingOf, peekingOf, pokingOf, callingOf};
 use machine_numbers::numbers::DONE;
+use ops::op::Binding;
 use ops::op::Mode;
+use standard_device::bindings::Called;
 use testing_device::device::Got;
 use testing_device::device::Peeked;
 use testing_device::device::Poked;
@@ -74,5 +76,26 @@ pub fn poke(first: usize, waiting: &mut usize, register: &[u64], channel: &mut [
         }
         Poked::Full => 34,
         Poked::NotARing => 37,
+    }
+}
+
+pub fn ffi_call(
+    binding: Binding,
+    first: &mut usize,
+    waiting: &mut usize,
+    channel: &mut [u64],
+) -> u32
+    ensures { λ r. ⌜ ((p : Numbers) → oneList (onward r (ofRing p (now (first .exit)) (now (waiting .exit)))) (now (channel .exit)) ≡ callingOf binding (ofRing p (now (first .entry)) (now (waiting .entry))) (now (channel .entry))) ⌝ }
+{
+    let f = *first;
+    let w = *waiting;
+    match standard_device::bindings::ffi_call(binding, channel, f, w) {
+        Called::Sent(at, left) => {
+            *first = at;
+            *waiting = left;
+            DONE
+        }
+        Called::TooFew => 33,
+        Called::NotARing => 37,
     }
 }

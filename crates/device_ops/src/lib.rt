@@ -1,2 +1,2 @@
-// Get, Put, Peek and Poke, on the machine's numbers.
+// Get, Put, Peek, Poke and FFI Call, on the machine's numbers.
 pub mod device; // one function for each arm of the Rust's `step`

@@ -6,12 +6,13 @@ use native.Mathlib.Omega.{arith}
 use borrow.Author.Tests.{lt-ltb}
 use lib.ListN.{length, replicate, length-replicate}
 use Rattle.ops.specs.declared.op.Mode.the-variants.{Char, Int, Other}
+use Rattle.ops.specs.declared.op.Binding.the-variants.{SquareRoot, Add}
 use Rattle.byte_fields.specs.Bytes.{valuesAt, textAt}
 use Rattle.kind_table.specs.Kinds.{kindAt, indexOf}
 use Rattle.ops.specs.Refusals.{numberOf}
-use Rattle.ops.specs.Record.{lengthOk, countOf, modeOf, bodyAt, recordAt}
+use Rattle.ops.specs.Record.{lengthOk, countOf, namedOf, lastOf, bodyAt, recordAt}
 use Rattle.ops.specs.Syntax.Control.{function, end}
-use Rattle.ops.specs.Syntax.Plain.{comment, move, offset, put, get}
+use Rattle.ops.specs.Syntax.Plain.{comment, move, offset, put, get, ffiCall}
 use Rattle.ops.specs.Syntax.Sort.{ints, floats}
 use Rattle.ops.specs.Syntax.Op.{control, set, load, plain}
 use Rattle.ops.specs.Patch.{Loaded, walk, patchOf, markOf}
@@ -45,6 +46,7 @@ pub meanings :
     (14 ∷ 0 ∷ 0 ∷ 0 ∷ 16 ∷ 0 ∷ 5 ∷ 0 ∷ 0 ∷ 0 ∷ 0 ∷ 0 ∷ 0 ∷ 0 ∷ 3 ∷ 0 ∷ 0 ∷ 0 ∷ []) ∷
     (18 ∷ 0 ∷ 0 ∷ 0 ∷ 0 ∷ 1 ∷ 1 ∷ 2 ∷ 0 ∷ 0 ∷ 0 ∷ 0 ∷ 0 ∷ 0 ∷ 0 ∷ 0 ∷ 0 ∷ 0 ∷ 0 ∷ 0 ∷ 240 ∷ 63 ∷ []) ∷
     (4 ∷ 0 ∷ 0 ∷ 0 ∷ 38 ∷ 0 ∷ 1 ∷ 0 ∷ 4 ∷ 0 ∷ 0 ∷ 0 ∷ 38 ∷ 0 ∷ 3 ∷ 0 ∷ []) ∷
+    (4 ∷ 0 ∷ 0 ∷ 0 ∷ 21 ∷ 1 ∷ 0 ∷ 0 ∷ 4 ∷ 0 ∷ 0 ∷ 0 ∷ 21 ∷ 1 ∷ 1 ∷ 0 ∷ []) ∷
     (2 ∷ 0 ∷ 0 ∷ 0 ∷ 8 ∷ 0 ∷ 7 ∷ []) ∷
     [])
     ≡
@@ -56,14 +58,16 @@ pub meanings :
     ops (plain (offset 5 3) ∷ []) ∷
     ops (set floats (513 ∷ 4607182418800017408 ∷ []) ∷ []) ∷
     ops (plain (get Int) ∷ plain (get Other) ∷ []) ∷
+    ops (plain (ffiCall SquareRoot) ∷ plain (ffiCall Add) ∷ []) ∷
     refused 1 6 ∷
     []
-unfolding kindAt indexOf numberOf lengthOk countOf modeOf bodyAt recordAt markOf patchOf rows rowAt valuesAt textAt opAt opsOf
+unfolding kindAt indexOf numberOf lengthOk countOf namedOf lastOf bodyAt recordAt markOf patchOf rows rowAt valuesAt textAt opAt opsOf
 meanings = refl
 
 -- each refusal 1 to 6 with a smallest file, one after an End; then files that break two rules, where the first test's number is
 -- given: under 2 before beyond the file, beyond the file before the kind, the kind before the payload's length, that before the
--- lanes and the mode, "mode over 3" before mode 2 (258), no multiple of 8 before too many values
+-- lanes and the mode, "mode over 3" before mode 2 (258), no multiple of 8 before too many values. 02, ask 9: FFI Call with no payload, with four bytes
+-- and with binding 2
 abbrev files : List (List ℕ)
 files =
     (0 ∷ []) ∷
@@ -88,6 +92,9 @@ files =
     (11 ∷ 32 ∷ 0 ∷ 0 ∷ 1 ∷ 0 ∷ replicate 8201 0) ∷
     (10 ∷ 32 ∷ 0 ∷ 0 ∷ 1 ∷ 0 ∷ replicate 8200 0) ∷
     (2 ∷ 32 ∷ 0 ∷ 0 ∷ 1 ∷ 0 ∷ replicate 8192 0) ∷
+    (2 ∷ 0 ∷ 0 ∷ 0 ∷ 21 ∷ 1 ∷ []) ∷
+    (6 ∷ 0 ∷ 0 ∷ 0 ∷ 21 ∷ 1 ∷ 2 ∷ 0 ∷ 0 ∷ 0 ∷ []) ∷
+    (4 ∷ 0 ∷ 0 ∷ 0 ∷ 21 ∷ 1 ∷ 2 ∷ 0 ∷ []) ∷
     []
 
 -- a walk near its limits: one op still allowed before two Ends, none before a bad record, 256 marks before a Function, 255 before
@@ -106,11 +113,12 @@ answers =
     read 1 0 0 ∷ read 1 0 0 ∷ read 2 0 0 ∷ read 2 0 0 ∷ read 3 0 0 ∷ read 4 0 0 ∷ read 4 0 0 ∷ read 5 0 0 ∷ read 6 0 0 ∷ read 6 6 1 ∷
     read 2 0 0 ∷ read 1 0 0 ∷ read 3 0 0 ∷ read 4 0 0 ∷ read 2 0 0 ∷ read 2 0 0 ∷ read 6 0 0 ∷
     read 2 0 0 ∷ read 0 1 1 ∷ read 2 0 0 ∷ read 5 0 0 ∷ read 0 1 1 ∷
+    read 2 0 0 ∷ read 2 0 0 ∷ read 6 0 0 ∷
     read 7 6 1 ∷ read 3 0 0 ∷ read 8 0 0 ∷ read 0 1 1 ∷ read 7 0 0 ∷
     []
 
 computed : map answer files ++ map readOf limits ≡ answers
-unfolding kindAt indexOf numberOf lengthOk countOf modeOf bodyAt recordAt markOf patchOf readOf
+unfolding kindAt indexOf numberOf lengthOk countOf namedOf lastOf bodyAt recordAt markOf patchOf readOf
 computed = refl
 
 -- 01's numbers 1 to 8 together: 4,097 Ends and 257 marks are smallest files for 7 and 8

@@ -1,5 +1,5 @@
 -- The table's row of an op that is written, and what its payload says where it stands. Assumes nothing.
-use mathlib.Core.Path.{_≡_, _∙_, refl, ap, ap₂}
+use mathlib.Core.Path.{_≡_, _∙_, refl, ap, ap₂, sym}
 use mathlib.Core.Bool.{true, false}
 use mathlib.Core.List.{List, [], _∷_, _++_, append-assoc}
 use Prim.Native.Nat.{ℕ, _+_, _*_, _%_, _^_, _<_, _≤_}
@@ -13,17 +13,19 @@ use Rattle.lanes.specs.declared.lane.LaneOp.{LaneOp}
 use Rattle.lanes.specs.declared.lane.LaneOp.the-variants.{BitwiseNot, Not, Neg, Inc, Dec, IsNonNegative, ToInt, ToFloat, FloatNeg, FloatIsNonNegative}
 use Rattle.ops.specs.declared.op.Mode.{Mode}
 use Rattle.ops.specs.declared.op.Mode.the-variants.{Char, Int, Other}
+use Rattle.ops.specs.declared.op.Binding.{Binding}
+use Rattle.ops.specs.declared.op.Binding.the-variants as binding
 use Rattle.byte_fields.specs.Bytes.{u16At, u32At, u64At, le16, le32, le64}
 use Rattle.kind_table.specs.Kinds.{shape, kindAt, indexOf}
-use Rattle.ops.specs.Record.{lengthOk, countOf, modeOf}
+use Rattle.ops.specs.Record.{lengthOk, countOf, namedOf, lastOf}
 use Rattle.ops.specs.Syntax.{Control, Plain, Op, kindOf}
 use Rattle.ops.specs.Syntax.Control.{function, call, ret, while, if, else, end}
-use Rattle.ops.specs.Syntax.Plain.{comment, store, move, swap, locate, offset, deref, refer, cell, lane, get, put, peek, poke, alloc, free}
+use Rattle.ops.specs.Syntax.Plain.{comment, store, move, swap, locate, offset, deref, refer, cell, lane, get, put, peek, poke, ffiCall, alloc, free}
 use Rattle.ops.specs.Syntax.Sort.{ints, floats}
 use Rattle.ops.specs.Syntax.Op.{control, set, load, plain}
 use Rattle.ops.specs.Patch.{markOf}
-use Rattle.ops.specs.Decode.{rows, rowAt, modeIn, opWith, opCount}
-use Rattle.ops.specs.Write.{modeNumber, valueBytes, payloadOf, PlainFits, Fits, markIn}
+use Rattle.ops.specs.Decode.{rows, rowAt, modeIn, bindingIn, opWith, opCount}
+use Rattle.ops.specs.Write.{modeNumber, bindingNumber, valueBytes, payloadOf, PlainFits, Fits, markIn}
 use Rattle.file_laws.proofs.Rows.{rule}
 use Rattle.file_laws.proofs.Digits.{after-two, at16, at32, at64, length-le64, at-values, at-text}
 
@@ -98,6 +100,7 @@ plain-known (get m) = (refl, refl, refl, refl, λ s p m. refl)
 plain-known (put m) = (refl, refl, refl, refl, λ s p m. refl)
 plain-known peek = (refl, refl, refl, refl, λ s p m. refl)
 plain-known poke = (refl, refl, refl, refl, λ s p m. refl)
+plain-known (ffiCall b) = (refl, refl, refl, refl, λ s p m. refl)
 plain-known alloc = (refl, refl, refl, refl, λ s p m. refl)
 plain-known free = (refl, refl, refl, refl, λ s p m. refl)
 plain-known (cell k n) = cell-known k n
@@ -120,8 +123,8 @@ pub record Reads (s : List ℕ) (p : ℕ) (o : Op) : Type 0 where
   pub size : length (payloadOf o) ≤ 8192
   pub counts : countOf s (shape (rule o)) p (length (payloadOf o)) ≡ opCount o
   pub few : opCount o ≤ 1024
-  pub moded : modeOf s (shape (rule o)) p ≤ 3
-  pub float : eqb (modeOf s (shape (rule o)) p) 2 ≡ false
+  pub named : namedOf s (shape (rule o)) p ≤ lastOf (shape (rule o))
+  pub float : eqb (namedOf s (shape (rule o)) p) 2 ≡ false
   pub back : opWith s p (opCount o) o ≡ o
 
 mode-small : (m : Mode) → modeNumber m ≤ 3
@@ -139,6 +142,18 @@ mode-back Char = refl
 mode-back Int = refl
 mode-back Other = refl
 
+binding-small : (b : Binding) → bindingNumber b ≤ 1
+binding-small binding.SquareRoot = omega arith
+binding-small binding.Add = omega arith
+
+binding-kept : (b : Binding) → eqb (bindingNumber b) 2 ≡ false
+binding-kept binding.SquareRoot = refl
+binding-kept binding.Add = refl
+
+binding-back : (b : Binding) → bindingIn (bindingNumber b) ≡ b
+binding-back binding.SquareRoot = refl
+binding-back binding.Add = refl
+
 pub length-bytes : (vs : List ℕ) → length (valueBytes vs) ≡ 8 * length vs
 unfolding valueBytes
 length-bytes [] = refl
@@ -146,21 +161,21 @@ length-bytes (v ∷ vs) = omega (arith, length-append (le64 v) (valueBytes vs), 
 
 module _ (s : List ℕ) (p : ℕ) where
   none : (o : Op) → shape (rule o) ≡ 0 → payloadOf o ≡ [] → opCount o ≡ 0 → opWith s p (opCount o) o ≡ o → Reads s p o
-  unfolding lengthOk countOf modeOf
+  unfolding lengthOk countOf namedOf lastOf
   none o e f g h = record {
     kept = rw e refl;
     long = rw (e, f) refl;
     size = rw f (omega arith);
     counts = rw (e, g) refl;
     few = rw g (omega arith);
-    moded = rw e (omega arith);
+    named = rw e (omega arith);
     float = rw e refl;
     back = h;
   }
 
   count : (o : Op) (t : List ℕ) → shape (rule o) ≡ 3 → payloadOf o ≡ le32 (opCount o) → opCount o ≤ 1024
       → drop p s ≡ payloadOf o ++ t → (u32At s p ≡ opCount o → opWith s p (opCount o) o ≡ o) → Reads s p o
-  unfolding lengthOk countOf modeOf le32 le16
+  unfolding lengthOk countOf namedOf lastOf le32 le16
   count o t e f g d h =
       let u : u32At s p ≡ opCount o % 4294967296 = at32 s p (opCount o) t (rw f at d) in
       let w : u32At s p ≡ opCount o = omega arith in
@@ -170,38 +185,40 @@ module _ (s : List ℕ) (p : ℕ) where
         size = rw f (omega arith);
         counts = rw (e, w) refl;
         few = g;
-        moded = rw e (omega arith);
+        named = rw e (omega arith);
         float = rw e refl;
         back = h w;
       }
 
-  mode : (o : Op) (m : Mode) (t : List ℕ) → shape (rule o) ≡ 6 → payloadOf o ≡ le16 (modeNumber m) → opCount o ≡ 0
-      → drop p s ≡ payloadOf o ++ t → (modeIn (u16At s p) ≡ m → opWith s p (opCount o) o ≡ o) → Reads s p o
-  unfolding lengthOk countOf modeOf le16
-  mode o m t e f g d h =
-      let b = mode-small m in
-      let u : u16At s p ≡ modeNumber m % 65536 = at16 s p (modeNumber m) t (rw f at d) in
-      let w : u16At s p ≡ modeNumber m = omega arith in
+  -- a payload of two bytes that names the number k, a mode's or a binding's
+  number : (o : Op) (k : ℕ) (t : List ℕ) → payloadOf o ≡ le16 k → opCount o ≡ 0 → k < 65536
+      → eqb (shape (rule o)) 7 ≡ false → lengthOk (shape (rule o)) 2 ≡ true → countOf s (shape (rule o)) p 2 ≡ 0 → namedOf s (shape (rule o)) p ≡ u16At s p
+      → k ≤ lastOf (shape (rule o)) → eqb k 2 ≡ false
+      → drop p s ≡ payloadOf o ++ t → (u16At s p ≡ k → opWith s p (opCount o) o ≡ o) → Reads s p o
+  unfolding le16
+  number o k t f g b kept long counts named small left d h =
+      let u : u16At s p ≡ k % 65536 = at16 s p k t (rw f at d) in
+      let w : u16At s p ≡ k = omega arith in
       record {
-        kept = rw e refl;
-        long = rw (e, f) refl;
+        kept = kept;
+        long = rw f long;
         size = rw f (omega arith);
-        counts = rw (e, g) refl;
+        counts = rw f (counts ∙ sym g);
         few = rw g (omega arith);
-        moded = rw (e, w) b;
-        float = rw (e, w) (mode-kept m);
-        back = h (ap modeIn w ∙ mode-back m);
+        named = rw (named, w) small;
+        float = rw (named, w) left;
+        back = h w;
       }
 
   plain-reads : (q : Plain) (t : List ℕ) → PlainFits q → drop p s ≡ payloadOf (plain q) ++ t → Reads s p (plain q)
-  unfolding lengthOk countOf modeOf le64 le32 le16
+  unfolding lengthOk countOf namedOf lastOf le64 le32 le16
   plain-reads (comment bs) t w d = record {
     kept = refl;
     long = le-leb (length bs) 255 (w .0);
     size = omega arith;
     counts = refl;
     few = omega arith;
-    moded = omega arith;
+    named = omega arith;
     float = refl;
     back = ap (λ (l : List ℕ). plain (comment l)) (at-text bs s p t d);
   }
@@ -209,7 +226,7 @@ module _ (s : List ℕ) (p : ℕ) where
   plain-reads (move v) t w d =
       let u : u64At s p ≡ v % 2 ^ 64 = at64 s p v t d in
       let b : u64At s p ≡ v = omega arith in
-      record { kept = refl; long = refl; size = omega arith; counts = refl; few = omega arith; moded = omega arith; float = refl; back = ap (λ (k : ℕ). plain (move k)) b }
+      record { kept = refl; long = refl; size = omega arith; counts = refl; few = omega arith; named = omega arith; float = refl; back = ap (λ (k : ℕ). plain (move k)) b }
   plain-reads (swap n) t w d = count (plain (swap n)) t refl refl w d (λ e. ap (λ (k : ℕ). plain (swap k)) e)
   plain-reads locate t w d = none (plain locate) refl refl refl refl
   plain-reads (offset v n) t w d =
@@ -219,20 +236,21 @@ module _ (s : List ℕ) (p : ℕ) where
       let b : u64At s p ≡ v = omega arith in
       let z : u32At s (p + 8) ≡ n % 4294967296 = at32 s (p + 8) n t (after-two s p (le64 v) (le32 n) t d) in
       let c : u32At s (p + 8) ≡ n = omega arith in
-      record { kept = refl; long = refl; size = omega arith; counts = c; few = f; moded = omega arith; float = refl; back = ap₂ (λ (k l : ℕ). plain (offset k l)) b c }
+      record { kept = refl; long = refl; size = omega arith; counts = c; few = f; named = omega arith; float = refl; back = ap₂ (λ (k l : ℕ). plain (offset k l)) b c }
   plain-reads deref t w d = none (plain deref) refl refl refl refl
   plain-reads refer t w d = none (plain refer) refl refl refl refl
   plain-reads (cell k n) t w d = count (plain (cell k n)) t refl refl w d (λ e. ap (λ (m : ℕ). plain (cell k m)) e)
   plain-reads (lane k n) t w d = count (plain (lane k n)) t refl refl w d (λ e. ap (λ (m : ℕ). plain (lane k m)) e)
-  plain-reads (get m) t w d = mode (plain (get m)) m t refl refl refl d (λ e. ap (λ (k : Mode). plain (get k)) e)
-  plain-reads (put m) t w d = mode (plain (put m)) m t refl refl refl d (λ e. ap (λ (k : Mode). plain (put k)) e)
+  plain-reads (get m) t w d = number (plain (get m)) (modeNumber m) t refl refl (omega (arith, mode-small m)) refl refl refl refl (mode-small m) (mode-kept m) d (λ e. ap (λ (k : Mode). plain (get k)) (ap modeIn e ∙ mode-back m))
+  plain-reads (put m) t w d = number (plain (put m)) (modeNumber m) t refl refl (omega (arith, mode-small m)) refl refl refl refl (mode-small m) (mode-kept m) d (λ e. ap (λ (k : Mode). plain (put k)) (ap modeIn e ∙ mode-back m))
   plain-reads peek t w d = none (plain peek) refl refl refl refl
   plain-reads poke t w d = none (plain poke) refl refl refl refl
+  plain-reads (ffiCall b) t w d = number (plain (ffiCall b)) (bindingNumber b) t refl refl (omega (arith, binding-small b)) refl refl refl refl (binding-small b) (binding-kept b) d (λ e. ap (λ (k : Binding). plain (ffiCall k)) (ap bindingIn e ∙ binding-back b))
   plain-reads alloc t w d = none (plain alloc) refl refl refl refl
   plain-reads free t w d = none (plain free) refl refl refl refl
 
   pub payload-reads : (o : Op) (t : List ℕ) → Fits o → drop p s ≡ payloadOf o ++ t → Reads s p o
-  unfolding lengthOk countOf modeOf
+  unfolding lengthOk countOf namedOf lastOf
   payload-reads (control c) t w d = none (control c) refl refl refl refl
   payload-reads (set k vs) t w d =
       let l : length (valueBytes vs) ≡ 8 * length vs = length-bytes vs in
@@ -243,7 +261,7 @@ module _ (s : List ℕ) (p : ℕ) where
         size = omega arith;
         counts = omega arith;
         few = f;
-        moded = omega arith;
+        named = omega arith;
         float = refl;
         back = ap (set k) (at-values vs s p t (w .1) d);
       }

@@ -16,7 +16,7 @@ use Rattle.ops.specs.Patch.{Item, Loaded, stop, walk, patchOf, markOf}
 use Rattle.ops.specs.Decode.{rowAt, opWith, opAt, opsOf}
 use Rattle.ops.specs.Decode.Patch.{ops, refused}
 use Rattle.ops.specs.Syntax.{Op, Plain}
-use Rattle.ops.specs.Syntax.Plain.{comment, store, move, swap, locate, offset, deref, refer, cell, lane, get, put, peek, poke, alloc, free}
+use Rattle.ops.specs.Syntax.Plain.{comment, store, move, swap, locate, offset, deref, refer, cell, lane, get, put, peek, poke, ffiCall, alloc, free}
 use Rattle.ops.specs.Syntax.Op.{control, set, load, plain}
 use Rattle.ops.specs.Write.{encodeAll, Below, Fits, Each, markIn, marksIn, AllFit}
 use Rattle.ops.specs.declared.refusals.Refusal.the-variants.{FileTooLong}
@@ -89,6 +89,7 @@ module _ (s : List ℕ) (w : Below 256 s) where
     plain-fits (put m) f c = tt
     plain-fits peek f c = tt
     plain-fits poke f c = tt
+    plain-fits (ffiCall b) f c = tt
     plain-fits alloc f c = tt
     plain-fits free f c = tt
 

@@ -11,7 +11,7 @@ use Rattle.kind_table.specs.Kinds.{shape, need, indexOf, runNeed}
 use Rattle.ops.specs.Record.{countOf}
 use Rattle.ops.specs.Syntax.{Control, Plain, Op, kindOf, plainKind, needs, needsOf, plainNeeds}
 use Rattle.ops.specs.Syntax.Control.{function, call, ret, while, if, else, end}
-use Rattle.ops.specs.Syntax.Plain.{comment, store, move, swap, locate, offset, deref, refer, cell, lane, get, put, peek, poke, alloc, free}
+use Rattle.ops.specs.Syntax.Plain.{comment, store, move, swap, locate, offset, deref, refer, cell, lane, get, put, peek, poke, ffiCall, alloc, free}
 use Rattle.ops.specs.Syntax.Op.{control, set, load, plain}
 use Rattle.ops.specs.Patch.{Item, rowIn, countIn, needIn, patchOf}
 use Rattle.ops.specs.Decode.{rowAt, plainWith, opWith, opAt, plainCount, opCount, opsOf}
@@ -54,6 +54,7 @@ module _ (s : List ℕ) (p n : ℕ) where
   plain-kind (put m) = refl
   plain-kind peek = refl
   plain-kind poke = refl
+  plain-kind (ffiCall b) = refl
   plain-kind alloc = refl
   plain-kind free = refl
 
@@ -87,6 +88,7 @@ module _ (s : List ℕ) (p n : ℕ) where
   plain-need (put m) = refl
   plain-need peek = refl
   plain-need poke = refl
+  plain-need (ffiCall b) = refl
   plain-need alloc = refl
   plain-need free = refl
 
@@ -115,6 +117,7 @@ module _ (s : List ℕ) (p l n : ℕ) (h : p + l ≤ length s) where
   plain-count (put m) e = sym e
   plain-count peek e = sym e
   plain-count poke e = sym e
+  plain-count (ffiCall b) e = sym e
   plain-count alloc e = sym e
   plain-count free e = sym e
 

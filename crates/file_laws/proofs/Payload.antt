@@ -1,15 +1,16 @@
--- What the functions that read a payload say of the op: its values, its argument, its text and its mode are those that
--- stand in the file. Assumes nothing.
+-- What the functions that read a payload say of the op: its values, its argument, its text, its mode and its binding are those
+-- that stand in the file. Assumes nothing.
 use mathlib.Core.Path.{_≡_, _∙_, refl, sym, ap}
 use mathlib.Core.List.{List}
 use Prim.Native.Nat.{ℕ}
 use Rattle.ops.specs.declared.op.Mode.{Mode}
+use Rattle.ops.specs.declared.op.Binding.{Binding}
 use Rattle.byte_fields.specs.Bytes.{u16At, u64At, valuesAt, textAt}
 use Rattle.ops.specs.Syntax.{Plain, Sort, Op}
-use Rattle.ops.specs.Syntax.Plain.{comment, store, move, swap, locate, offset, deref, refer, cell, lane, get, put, peek, poke, alloc, free}
+use Rattle.ops.specs.Syntax.Plain.{comment, store, move, swap, locate, offset, deref, refer, cell, lane, get, put, peek, poke, ffiCall, alloc, free}
 use Rattle.ops.specs.Syntax.Op.{control, set, load, plain}
 use Rattle.ops.specs.Patch.{Item}
-use Rattle.ops.specs.Decode.{modeIn, plainWith, opWith, rowAt, opAt}
+use Rattle.ops.specs.Decode.{modeIn, bindingIn, plainWith, opWith, rowAt, opAt}
 
 -- a payload read twice is the payload
 module _ (s : List ℕ) (p n : ℕ) where
@@ -28,6 +29,7 @@ module _ (s : List ℕ) (p n : ℕ) where
   plain-again (put m) = refl
   plain-again peek = refl
   plain-again poke = refl
+  plain-again (ffiCall b) = refl
   plain-again alloc = refl
   plain-again free = refl
 
@@ -64,3 +66,7 @@ module _ (s : List ℕ) (i : Item) where
 
   pub put-mode : (m : Mode) → opAt s i ≡ plain (put m) → m ≡ modeIn (u16At s (i .payload))
   put-mode m e = cc (held (plain (put m)) e)
+
+  -- what `binding_at` reads
+  pub ffi-binding : (b : Binding) → opAt s i ≡ plain (ffiCall b) → b ≡ bindingIn (u16At s (i .payload))
+  ffi-binding b e = cc (held (plain (ffiCall b)) e)

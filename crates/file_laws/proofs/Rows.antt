@@ -5,11 +5,11 @@ use Prim.Native.Nat.{ℕ, _<_}
 use native.Mathlib.Omega.{arith}
 use lib.Dec.{T, leb, eqb, eqb→eq}
 use Rattle.kind_table.specs.Rows as row
-use Rattle.kind_table.specs.Columns.{empty, text, values, laneCount, amount, amountAndLanes, mode, leftOut, noLane, oneLane, ownLanes, oneInCheck, asBefore, ownCount, oneKnown}
+use Rattle.kind_table.specs.Columns.{empty, text, values, laneCount, amount, amountAndLanes, mode, leftOut, binding, noLane, oneLane, ownLanes, oneInCheck, asBefore, ownCount, oneKnown}
 use Rattle.kind_table.specs.Kinds.{kind, shape, need, after, kinds, kindAt, indexOf}
 use Rattle.ops.specs.Syntax.{Control, Plain, Op, kindOf}
 use Rattle.ops.specs.Syntax.Control.{function, call, ret, while, if, else, end}
-use Rattle.ops.specs.Syntax.Plain.{comment, store, move, swap, locate, offset, deref, refer, cell, lane, get, put, peek, poke, alloc, free}
+use Rattle.ops.specs.Syntax.Plain.{comment, store, move, swap, locate, offset, deref, refer, cell, lane, get, put, peek, poke, ffiCall, alloc, free}
 use Rattle.ops.specs.Syntax.Op.{control, set, load, plain}
 use Rattle.ops.specs.Decode.{rows, rowAt}
 use Rattle.kind_table.specs.declared.kinds.Kind.{Kind}
@@ -41,6 +41,7 @@ plainRule (get m) = kind mode oneLane asBefore
 plainRule (put m) = kind mode oneLane asBefore
 plainRule peek = kind empty oneLane asBefore
 plainRule poke = kind empty oneLane asBefore
+plainRule (ffiCall b) = kind binding noLane asBefore
 plainRule alloc = kind empty oneLane asBefore
 plainRule free = kind empty noLane asBefore
 
@@ -51,9 +52,9 @@ rule (set k vs) = kind values noLane ownCount
 rule (load n) = kind laneCount noLane ownCount
 rule (plain p) = plainRule p
 
--- "kinds 268 to 274, 277"
+-- "kinds 268 to 274, 277"; 02, ask 9: "277 leaves 4"
 abbrev pub isLeftOut : ℕ → Bool
-isLeftOut k = cond (leb row.sin k) (leb k row.pow) false || eqb k row.standardCall
+isLeftOut k = cond (leb row.sin k) (leb k row.pow) false
 
 -- ---- the rows
 

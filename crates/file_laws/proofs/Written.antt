@@ -10,7 +10,7 @@ use lib.ListN.{length, take, drop, length-append, length-drop}
 use lib.Seq.{drop-append-seam, drop-at, length-take-le}
 use Rattle.byte_fields.specs.Bytes.{u16At, u32At, le16, le32}
 use Rattle.kind_table.specs.Kinds.{shape, kindAt, indexOf}
-use Rattle.ops.specs.Record.{recordAt, bodyAt, modeOf}
+use Rattle.ops.specs.Record.{recordAt, bodyAt, namedOf, lastOf}
 use Rattle.ops.specs.declared.records.Record.the-variants.{Whole}
 use Rattle.ops.specs.Syntax.{Op, kindOf}
 use Rattle.ops.specs.Patch.{Item, item}
@@ -81,7 +81,7 @@ module _ (o : Op) (s : List ℕ) (p : ℕ) (t : List ℕ) (d : drop p s ≡ enco
         let t₃ : ltb (length s) (p + 4 + (n + 2)) ≡ false = le-ltb (length s) (p + 4 + (n + 2)) (omega arith) in
         let q : shape (kindAt (indexOf (kindOf o))) ≡ shape (rule o) = ap shape (known o .2) in
         let t₄ : ltb 1024 (opCount o) ≡ false = le-ltb 1024 (opCount o) (r .few) in
-        let t₅ : ltb 3 (modeOf s (shape (rule o)) (p + 6)) ≡ false = le-ltb 3 (modeOf s (shape (rule o)) (p + 6)) (r .moded) in
+        let t₅ : ltb (lastOf (shape (rule o))) (namedOf s (shape (rule o)) (p + 6)) ≡ false = le-ltb (lastOf (shape (rule o))) (namedOf s (shape (rule o)) (p + 6)) (r .named) in
         rw (t₁, a, t₂, t₃, b, known o .0, q, r .kept, h, r .long, r .counts, t₄, t₅, r .float) refl
 
     -- and its item means the op

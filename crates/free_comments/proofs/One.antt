@@ -39,7 +39,7 @@ Held g s = Places (g .ops) (Landing (g .ops)) (s .calls) (s .table)
 module _ (g : Given) where
   effect-held : (s t : State) (o : Op) → Held g s → Effect g (Landing (g .ops)) s o t → Held g t
   effect-held s _ _ h (turns j ts cs b k) = k h .1
-  effect-held s _ _ h (acts p n r m rs ch k os l e w z) = h
+  effect-held s _ _ h (acts p n r m rs ch i k os l e w z) = h
 
   step-held : (s t : State) → Held g s → step g s ≡ next t → Held g t
   step-held s t h e = effect-held s t _ h (next-gives (step g s) t (step-does g (Landing (g .ops)) (λ j l. l) s) e)
@@ -162,6 +162,7 @@ module _ (A : List Op) (bs : List ℕ) (B : List Op) where
         refs = refl;
         register = refl;
         channel = refl;
+        first = refl;
         taken = refl;
         halted = refl;
       })

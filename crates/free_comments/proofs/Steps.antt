@@ -14,7 +14,7 @@ use Rattle.basics.proofs.Clash.{clash}
 use Rattle.basics.proofs.Tests.{byCase, and-right}
 use Rattle.ops.specs.Syntax.{Op, Control, Plain, isFunction, isWhile}
 use Rattle.ops.specs.Syntax.Control.{function, call, ret, while, if, else, end}
-use Rattle.ops.specs.Syntax.Plain.{comment, store, move, swap, locate, offset, deref, refer, cell, lane, get, put, peek, poke, alloc, free}
+use Rattle.ops.specs.Syntax.Plain.{comment, store, move, swap, locate, offset, deref, refer, cell, lane, get, put, peek, poke, ffiCall, alloc, free}
 use Rattle.ops.specs.Syntax.Op.{control, set, load, plain}
 use Rattle.testing_device.specs.Device.{getOf}
 use Rattle.testing_device.specs.declared.device.Got.{Got}
@@ -92,6 +92,7 @@ module _ (f : ℕ → ℕ) where
       act-sent (put m) = bar-sent _ 36 _ _ cc
       act-sent peek = peek-sent (s .channel)
       act-sent poke = bar-sent _ 34 _ _ cc
+      act-sent (ffiCall b) = bar-sent _ 33 _ _ cc
       act-sent alloc = bar-sent _ 30 _ _ cc
       act-sent free = cc
 

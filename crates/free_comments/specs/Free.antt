@@ -37,7 +37,7 @@ kept (o ∷ os) (suc i) = cond (isComment o) (kept os i) (suc (kept os i))
 -- a state whose places are moved, its position, its table and its saved calls; all else is as it was
 abbrev pub placed : (ℕ → ℕ) → State → State
 placed f s =
-    record { at = f (s .at); pointer = s .pointer; counted = s .counted; reg = s .reg; tape = s .tape; table = map f (s .table); calls = map f (s .calls); refs = s .refs; channel = s .channel; taken = s .taken; outs = s .outs; halted = s .halted }
+    record { at = f (s .at); pointer = s .pointer; counted = s .counted; reg = s .reg; tape = s .tape; table = map f (s .table); calls = map f (s .calls); refs = s .refs; channel = s .channel; first = s .first; taken = s .taken; outs = s .outs; halted = s .halted }
 
 -- an answer whose places are moved; number, lane and steps are as they were
 abbrev pub answered : (ℕ → ℕ) → Answer → Answer
@@ -81,5 +81,6 @@ pub record Added (a : ℕ) (q r : Answer) : Type 0 where
   pub refs : r .state .refs ≡ q .state .refs
   pub register : r .state .reg ≡ q .state .reg
   pub channel : r .state .channel ≡ q .state .channel
+  pub first : r .state .first ≡ q .state .first
   pub taken : r .state .taken ≡ q .state .taken
   pub halted : r .state .halted ≡ q .state .halted

@@ -10,7 +10,7 @@ use borrow.Author.Tests.{eqb-true}
 use Rattle.kind_table.specs.Kinds.{shape, kindAt, indexOf}
 use Rattle.ops.specs.Decode.{opCount}
 use Rattle.ops.specs.Syntax.{Op, Plain, kindOf, argOf, valuesOf}
-use Rattle.ops.specs.Syntax.Plain.{comment, store, move, swap, locate, offset, deref, refer, cell, lane, get, put, peek, poke, alloc, free}
+use Rattle.ops.specs.Syntax.Plain.{comment, store, move, swap, locate, offset, deref, refer, cell, lane, get, put, peek, poke, ffiCall, alloc, free}
 use Rattle.ops.specs.Syntax.Op.{control, set, load, plain}
 use Rattle.byte_fields.specs.Bytes.{le16, le32, le64}
 use Rattle.ops.specs.Write.{valueBytes, payloadOf, encode, encodeAll}
@@ -30,7 +30,8 @@ span f n =
     (cond (eqb f 3) 4
     (cond (eqb f 4) 8
     (cond (eqb f 5) 12
-    (cond (eqb f 6) 2 0)))))
+    (cond (eqb f 6) 2
+    (cond (eqb f 8) 2 0))))))
 
 plain-span : (q : Plain) → length (payloadOf (plain q)) ≡ span (shape (rows.rule (plain q))) (opCount (plain q))
 unfolding le64 le32 le16
@@ -48,6 +49,7 @@ plain-span (get m) = refl
 plain-span (put m) = refl
 plain-span peek = refl
 plain-span poke = refl
+plain-span (ffiCall b) = refl
 plain-span alloc = refl
 plain-span free = refl
 

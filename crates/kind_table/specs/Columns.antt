@@ -27,6 +27,10 @@ mode = 6
 abbrev pub leftOut : ℕ
 leftOut = 7
 
+-- 02, ask 9: "payload u16, 0 for square_root, 1 for add"
+abbrev pub binding : ℕ
+binding = 8
+
 -- ---- the lanes needed: none, one, the op's own count, one in the check and none in a run
 
 abbrev pub noLane : ℕ

@@ -5,7 +5,7 @@ use mathlib.Core.Bool.{cond}
 use mathlib.Core.List.{List, [], _∷_}
 use lib.ListN.{getD}
 use lib.Dec.{ltb, eqb}
-use Rattle.kind_table.specs.Columns.{empty, text, values, laneCount, amount, amountAndLanes, mode, leftOut, noLane, oneLane, ownLanes, oneInCheck, asBefore, ownCount, oneKnown, tapeFamily, controlFamily, cellFamily, laneFamily, deviceFamily, offsetFamily, swapFamily}
+use Rattle.kind_table.specs.Columns.{empty, text, values, laneCount, amount, amountAndLanes, mode, leftOut, binding, noLane, oneLane, ownLanes, oneInCheck, asBefore, ownCount, oneKnown, tapeFamily, controlFamily, cellFamily, laneFamily, deviceFamily, offsetFamily, swapFamily}
 use Rattle.kind_table.specs.declared.kinds.Kind.{Kind}
 
 abbrev pub kind : ℕ → ℕ → ℕ → Kind
@@ -103,8 +103,8 @@ kinds =
     -- Peek, Poke
     kind empty oneLane asBefore ∷
     kind empty oneLane asBefore ∷
-    -- standard Call: left out
-    kind leftOut noLane asBefore ∷
+    -- standard Call: 02, ask 9: "The check needs no lane for it"
+    kind binding noLane asBefore ∷
     []
 
 -- row k; blank beyond the last
@@ -166,8 +166,8 @@ families =
     tapeFamily ∷ tapeFamily ∷ tapeFamily ∷ tapeFamily ∷ tapeFamily ∷ tapeFamily ∷ tapeFamily ∷
     -- Peek, Poke
     deviceFamily ∷ deviceFamily ∷
-    -- standard Call: left out
-    tapeFamily ∷
+    -- standard Call
+    deviceFamily ∷
     []
 
 unfoldable pub familyOf : ℕ → ℕ

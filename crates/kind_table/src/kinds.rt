@@ -85,7 +85,7 @@ const KINDS: [u8; COUNT] = [
     shape::LEFT_OUT * 16 + need::NONE * 4 + known::KEEP, // Pow
     shape::EMPTY * 16 + need::ONE * 4 + known::KEEP, // Peek
     shape::EMPTY * 16 + need::ONE * 4 + known::KEEP, // Poke
-    shape::LEFT_OUT * 16 + need::NONE * 4 + known::KEEP, // standard Call
+    shape::BINDING * 16 + need::NONE * 4 + known::KEEP, // standard Call
 ];
 
 // The row k of the table, taken apart; blank beyond the last.

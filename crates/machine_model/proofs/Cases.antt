@@ -6,9 +6,10 @@ use mathlib.Core.List.{List, [], _∷_, _++_, map}
 use Rattle.lanes.specs.declared.lane.CellOp.the-variants.{Add}
 use Rattle.lanes.specs.declared.lane.LaneOp.the-variants.{Dec}
 use Rattle.ops.specs.declared.op.Mode.the-variants.{Char, Int, Other}
+use Rattle.ops.specs.declared.op.Binding.the-variants as binding
 use Rattle.ops.specs.Syntax.{Op}
 use Rattle.ops.specs.Syntax.Control.{function, call, ret, while, if, else, end}
-use Rattle.ops.specs.Syntax.Plain.{comment, store, move, locate, offset, deref, refer, cell, lane, get, put, peek, poke, alloc}
+use Rattle.ops.specs.Syntax.Plain.{comment, store, move, locate, offset, deref, refer, cell, lane, get, put, peek, poke, ffiCall, alloc}
 use Rattle.ops.specs.Syntax.Sort.{ints}
 use Rattle.ops.specs.Syntax.Op.{control, set, load, plain}
 use Rattle.machine_model.specs.State.{given, rustTable, byMark, fresh, withTape, lane0}
@@ -52,6 +53,12 @@ one v = set ints (v ∷ [])
 
 out : Op
 out = plain (put Char)
+
+root : Op
+root = plain (ffiCall binding.SquareRoot)
+
+add : Op
+add = plain (ffiCall binding.Add)
 
 -- integers below 0, by their bits
 unfoldable pub minus : ℕ → ℕ
@@ -135,6 +142,26 @@ talks =
     ∷ ran (one 256 ∷ control while ∷ plain poke ∷ plain (lane Dec 1) ∷ control end ∷ plain peek ∷ plain poke ∷ plain peek ∷ []) (0 ∷ 773 ∷ 8 ∷ 255 ∷ 0 ∷ 0 ∷ [])
     ∷ []
 
+-- ---- 02, ask 9: "Each takes its values from the front of the channel and puts its result at the back"
+
+-- the root of 2.0, of the least subnormal and of the largest float; two roots, the older value's first; -0.0, infinity, -1.0 and a NaN; 1.5 + 2.25 behind a
+-- value that waits, and inf - inf; a full channel
+binds : List Case
+unfolding ran one out root add
+binds =
+    ran (one 0x4000_0000_0000_0000 ∷ plain poke ∷ root ∷ plain peek ∷ out ∷ []) (0 ∷ 5 ∷ 5 ∷ 0x3FF6_A09E_667F_3BCD ∷ 0 ∷ 0 ∷ 0x3FF6_A09E_667F_3BCD ∷ [])
+    ∷ ran (one 1 ∷ plain poke ∷ root ∷ plain peek ∷ []) (0 ∷ 4 ∷ 4 ∷ 0x1E60_0000_0000_0000 ∷ 0 ∷ 0 ∷ [])
+    ∷ ran (one 0x7FEF_FFFF_FFFF_FFFF ∷ plain poke ∷ root ∷ plain peek ∷ []) (0 ∷ 4 ∷ 4 ∷ 0x5FEF_FFFF_FFFF_FFFF ∷ 0 ∷ 0 ∷ [])
+    ∷ ran (one 0x4010_0000_0000_0000 ∷ plain poke ∷ one 0x4022_0000_0000_0000 ∷ plain poke ∷ root ∷ root ∷ plain peek ∷ out ∷ plain peek ∷ out ∷ []) (0 ∷ 10 ∷ 10 ∷ 0x4008_0000_0000_0000 ∷ 0 ∷ 0 ∷ 0x4000_0000_0000_0000 ∷ 0x4008_0000_0000_0000 ∷ [])
+    ∷ ran (one 0x8000_0000_0000_0000 ∷ plain poke ∷ root ∷ plain peek ∷ []) (0 ∷ 4 ∷ 4 ∷ 0x8000_0000_0000_0000 ∷ 0 ∷ 0 ∷ [])
+    ∷ ran (one 0x7FF0_0000_0000_0000 ∷ plain poke ∷ root ∷ plain peek ∷ []) (0 ∷ 4 ∷ 4 ∷ 0x7FF0_0000_0000_0000 ∷ 0 ∷ 0 ∷ [])
+    ∷ ran (one 0xBFF0_0000_0000_0000 ∷ plain poke ∷ root ∷ plain peek ∷ []) (0 ∷ 4 ∷ 4 ∷ 0x7FF8_0000_0000_0000 ∷ 0 ∷ 0 ∷ [])
+    ∷ ran (one 0xFFF0_0000_0000_0001 ∷ plain poke ∷ root ∷ plain peek ∷ []) (0 ∷ 4 ∷ 4 ∷ 0x7FF8_0000_0000_0000 ∷ 0 ∷ 0 ∷ [])
+    ∷ ran (one 0x3FF8_0000_0000_0000 ∷ plain poke ∷ one 0x4002_0000_0000_0000 ∷ plain poke ∷ one 7 ∷ plain poke ∷ add ∷ plain peek ∷ out ∷ plain peek ∷ out ∷ []) (0 ∷ 11 ∷ 11 ∷ 0x400E_0000_0000_0000 ∷ 0 ∷ 0 ∷ 7 ∷ 0x400E_0000_0000_0000 ∷ [])
+    ∷ ran (one 0x7FF0_0000_0000_0000 ∷ plain poke ∷ one 0xFFF0_0000_0000_0000 ∷ plain poke ∷ add ∷ plain peek ∷ []) (0 ∷ 6 ∷ 6 ∷ 0x7FF8_0000_0000_0000 ∷ 0 ∷ 0 ∷ [])
+    ∷ ran (one 256 ∷ control while ∷ plain poke ∷ plain (lane Dec 1) ∷ control end ∷ root ∷ plain peek ∷ []) (0 ∷ 772 ∷ 7 ∷ 255 ∷ 0 ∷ 0 ∷ [])
+    ∷ []
+
 -- ---- the budget: "halted or at the end gives 0; steps equal to budget gives 50", before any refusal
 budgets : List Case
 unfolding within one out
@@ -195,7 +222,7 @@ by-mark =
 
 -- ---- every refusal of a step, with its place; earlier steps stand, and the refused one leaves nothing
 refusals : List Case
-unfolding ran upon one out minus
+unfolding ran upon one out minus root add
 refusals =
     ran (one 0 ∷ control while ∷ []) (20 ∷ 1 ∷ 1 ∷ 0 ∷ 0 ∷ 0 ∷ [])
     ∷ ran (one 0 ∷ control if ∷ control if ∷ control end ∷ []) (20 ∷ 1 ∷ 1 ∷ 0 ∷ 0 ∷ 0 ∷ [])
@@ -219,6 +246,8 @@ refusals =
     ∷ ran (control call ∷ control function ∷ control call ∷ control end ∷ []) (32 ∷ 256 ∷ 2 ∷ 0 ∷ 0 ∷ 0 ∷ [])
     ∷ ran (one 1 ∷ control while ∷ plain deref ∷ control end ∷ []) (32 ∷ 514 ∷ 2 ∷ 1 ∷ 0 ∷ 100_000 ∷ [])
     ∷ ran (plain peek ∷ []) (33 ∷ 0 ∷ 0 ∷ 0 ∷ 0 ∷ 0 ∷ [])
+    ∷ ran (root ∷ []) (33 ∷ 0 ∷ 0 ∷ 0 ∷ 0 ∷ 0 ∷ [])
+    ∷ ran (one 7 ∷ plain poke ∷ add ∷ []) (33 ∷ 2 ∷ 2 ∷ 7 ∷ 0 ∷ 0 ∷ [])
     ∷ ran (one 1 ∷ control while ∷ plain poke ∷ control end ∷ []) (34 ∷ 514 ∷ 2 ∷ 1 ∷ 0 ∷ 0 ∷ [])
     ∷ ran (plain (get Char) ∷ []) (35 ∷ 0 ∷ 0 ∷ 0 ∷ 0 ∷ 0 ∷ [])
     ∷ ran (one 12_345 ∷ plain (put Int) ∷ []) (36 ∷ 1 ∷ 1 ∷ 12_345 ∷ 0 ∷ 0 ∷ [])
@@ -255,8 +284,8 @@ unfolding lane-tried lanes
 all-lanes = refl
 
 unfoldable pub cases : List Case
-unfolding loops ifs elses functions tapes talks budgets notes by-mark refusals
-cases = loops ++ ifs ++ elses ++ functions ++ tapes ++ talks ++ budgets ++ notes ++ by-mark ++ refusals
+unfolding loops ifs elses functions tapes talks binds budgets notes by-mark refusals
+cases = loops ++ ifs ++ elses ++ functions ++ tapes ++ talks ++ binds ++ budgets ++ notes ++ by-mark ++ refusals
 
 all : map tried cases ≡ map (λ c. c .seen) cases
 unfolding tried cases

@@ -19,7 +19,7 @@ use Rattle.lane_loops.proofs.LaneLoops.{length-zip, length-map}
 use Rattle.ops.specs.Syntax.{Op, Control, Plain, bracket, isFunction, isWhile, needs, plainNeeds}
 use Rattle.ops.specs.Syntax.Bracket.{up, mid}
 use Rattle.ops.specs.Syntax.Control.{function, call, ret, while, if, else, end}
-use Rattle.ops.specs.Syntax.Plain.{comment, store, move, swap, locate, offset, deref, refer, cell, lane, get, put, peek, poke, alloc, free}
+use Rattle.ops.specs.Syntax.Plain.{comment, store, move, swap, locate, offset, deref, refer, cell, lane, get, put, peek, poke, ffiCall, alloc, free}
 use Rattle.ops.specs.Syntax.Op.{control, set, load, plain}
 use Rattle.ops.specs.Write.{Below, Fits}
 use Rattle.ops.specs.declared.op.Mode.{Mode}
@@ -36,6 +36,9 @@ use Rattle.machine_model.specs.Scan.{opAt, brackets, toOpen}
 use Rattle.machine_model.specs.Step.{Outcome, lack, bar, enter, jump, endOf, elseOf, called, routine, found, back, again, turn, minus, cover, beyond, ahead, cells, grown, referTo, moveBy, gotten, peekAt, act, exec, op, pick, step}
 use Rattle.machine_model.specs.Step.Outcome.{finished, next}
 use Rattle.machine_model.specs.Formed.{Each, Rising, Whole, Formed}
+use Rattle.ops.specs.declared.op.Binding.{Binding}
+use Rattle.standard_device.specs.Bindings.{inputs, resultOf}
+use Rattle.standard_device.proofs.Values.{inputs-few, result-below}
 use Rattle.machine_model.specs.Words.{Word, Words}
 use Rattle.machine_model.specs.Missing.{AsksCells, FirstMissing, FirstCell}
 use Rattle.machine_model.specs.Missing.AsksCells.{loads, stores, swaps, combines, derefs}
@@ -166,10 +169,10 @@ made (set a vs) k = length vs
 made (load n) k = n
 made (plain p) k = k
 
--- pointer and counted length, saved pointers and channel, input place and outputs
-abbrev pub Sizes : Given → ℕ → ℕ → List ℕ → List ℕ → ℕ → List ℕ → Type 0
-Sizes g p n rs ch k os =
-    (p ≤ farthest) × (n ≤ longest) × (length rs ≤ depth) × (length ch ≤ depth) × (k ≤ length (g .input)) × (length os ≤ g .room)
+-- pointer and counted length, saved pointers, channel and its first place, input place and outputs
+abbrev pub Sizes : Given → ℕ → ℕ → List ℕ → List ℕ → ℕ → ℕ → List ℕ → Type 0
+Sizes g p n rs ch f k os =
+    (p ≤ farthest) × (n ≤ longest) × (length rs ≤ depth) × (length ch ≤ depth) × (f < depth) × (k ≤ length (g .input)) × (length os ≤ g .room)
 
 -- register, tape, channel and outputs
 abbrev pub Values : List ℕ → List ℕ → List ℕ → List ℕ → Type 0
@@ -178,21 +181,21 @@ Values r m ch os = Each Word r × Each Word m × Each Word ch × Each Word os
 -- the state after the place j, with the table ts and the calls cs
 abbrev pub turned : State → ℕ → List ℕ → List ℕ → Bool → State
 turned s j ts cs b =
-    record { at = suc j; pointer = s .pointer; counted = s .counted; reg = s .reg; tape = s .tape; table = ts; calls = cs; refs = s .refs; channel = s .channel; taken = s .taken; outs = s .outs; halted = b }
+    record { at = suc j; pointer = s .pointer; counted = s .counted; reg = s .reg; tape = s .tape; table = ts; calls = cs; refs = s .refs; channel = s .channel; first = s .first; taken = s .taken; outs = s .outs; halted = b }
 
 -- the state at the next op, with all that the ops besides control may change
-abbrev pub acted : State → ℕ → ℕ → List ℕ → List ℕ → List ℕ → List ℕ → ℕ → List ℕ → State
-acted s p n r m rs ch k os =
-    record { at = suc (s .at); pointer = p; counted = n; reg = r; tape = m; table = s .table; calls = s .calls; refs = rs; channel = ch; taken = k; outs = os; halted = s .halted }
+abbrev pub acted : State → ℕ → ℕ → List ℕ → List ℕ → List ℕ → List ℕ → ℕ → ℕ → List ℕ → State
+acted s p n r m rs ch f k os =
+    record { at = suc (s .at); pointer = p; counted = n; reg = r; tape = m; table = s .table; calls = s .calls; refs = rs; channel = ch; first = f; taken = k; outs = os; halted = s .halted }
 
 -- a control op goes on after a place where Q holds, if it does of the saved ones; any other at the next op, its length is whole if it was, and what
 -- it changes has the sizes of a well-formed state, and has words if the state had
 pub data Effect (g : Given) (Q : ℕ → Type 0) (s : State) : Op → State → Type 0 where
   turns : {c : Control} (j : ℕ) (ts cs : List ℕ) (b : Bool) → (Places (g .ops) Q (s .calls) (s .table) → Q j × Places (g .ops) Q cs ts)
       → Effect g Q s (control c) (turned s j ts cs b)
-  acts : {o : Op} (p n : ℕ) (r m rs ch : List ℕ) (k : ℕ) (os : List ℕ) → s .at < length (g .ops) → length r ≡ made o (length (s .reg))
+  acts : {o : Op} (p n : ℕ) (r m rs ch : List ℕ) (f k : ℕ) (os : List ℕ) → s .at < length (g .ops) → length r ≡ made o (length (s .reg))
       → (Whole (s .counted) → Whole n)
-      → (Formed g s → Fits o → Sizes g p n rs ch k os × Each (λ x. x ≤ farthest) rs × (Words g s → Values r m ch os)) → Effect g Q s o (acted s p n r m rs ch k os)
+      → (Formed g s → Fits o → Sizes g p n rs ch f k os × Each (λ x. x ≤ farthest) rs × (Words g s → Values r m ch os)) → Effect g Q s o (acted s p n r m rs ch f k os)
 
 module _ (g : Given) (Q : ℕ → Type 0) (lands : (j : ℕ) → Landing (g .ops) j → Q j) (s : State) (within : s .at < length (g .ops)) where
   abbrev Does : Op → Outcome → Type 0
@@ -278,13 +281,13 @@ module _ (g : Given) (Q : ℕ → Type 0) (lands : (j : ℕ) → Landing (g .ops
 
   -- ---- the others
 
-  grows : {o : Op} {p n : ℕ} {r m rs ch : List ℕ} {k : ℕ} {os : List ℕ} → length r ≡ made o (length (s .reg)) → (Whole (s .counted) → Whole n)
-      → (Formed g s → Fits o → Sizes g p n rs ch k os × Each (λ x. x ≤ farthest) rs × (Words g s → Values r m ch os)) → Does o (next (acted s p n r m rs ch k os))
-  grows e w h = goes (acts _ _ _ _ _ _ _ _ within e w h)
+  grows : {o : Op} {p n : ℕ} {r m rs ch : List ℕ} {f k : ℕ} {os : List ℕ} → length r ≡ made o (length (s .reg)) → (Whole (s .counted) → Whole n)
+      → (Formed g s → Fits o → Sizes g p n rs ch f k os × Each (λ x. x ≤ farthest) rs × (Words g s → Values r m ch os)) → Does o (next (acted s p n r m rs ch f k os))
+  grows e w h = goes (acts _ _ _ _ _ _ _ _ _ within e w h)
 
-  works : {o : Op} {p : ℕ} {r m rs ch : List ℕ} {k : ℕ} {os : List ℕ} → length r ≡ made o (length (s .reg))
-      → (Formed g s → Fits o → Sizes g p (s .counted) rs ch k os × Each (λ x. x ≤ farthest) rs × (Words g s → Values r m ch os))
-      → Does o (next (acted s p (s .counted) r m rs ch k os))
+  works : {o : Op} {p : ℕ} {r m rs ch : List ℕ} {f k : ℕ} {os : List ℕ} → length r ≡ made o (length (s .reg))
+      → (Formed g s → Fits o → Sizes g p (s .counted) rs ch f k os × Each (λ x. x ≤ farthest) rs × (Words g s → Values r m ch os))
+      → Does o (next (acted s p (s .counted) r m rs ch f k os))
   works e h = grows e (λ w. w) h
 
   covered : Formed g s → (n : ℕ) → n ≤ lanes → cover (s .pointer + n) (s .counted) ≤ longest
@@ -292,6 +295,9 @@ module _ (g : Given) (Q : ℕ → Type 0) (lands : (j : ℕ) → Landing (g .ops
 
   lane0-word : Words g s → Word (lane0 s)
   lane0-word w = each-getD Word (s .reg) 0 (omega arith) (w .in-reg)
+
+  result-word : (b : Binding) → Words g s → Word (resultOf b (s .channel))
+  result-word b w = result-below b (s .channel) (each-getD Word (s .channel) 0 (omega arith) (w .in-channel))
 
   refer-does : (rs : List ℕ) → s .refs ≡ rs → Does (plain refer) (referTo s rs)
   refer-does [] e = stopped (other refl)
@@ -351,6 +357,10 @@ module _ (g : Given) (Q : ℕ → Type 0) (lands : (j : ℕ) → Landing (g .ops
   act-does poke l =
       refuses 34 refl
       (λ e. works refl (λ f h. (omega (arith, leb-false, length-append (s .channel) (lane0 s ∷ [])), f .pointed, λ w. search (each-part, lane0-word))))
+  act-does (ffiCall b) l =
+      refuses 33 refl
+      (λ e. works refl
+      (λ f h. (omega (arith, ltb-false, inputs-few b, length-append (drop (inputs b) (s .channel)) (resultOf b (s .channel) ∷ []), length-drop (inputs b) (s .channel)), f .pointed, λ w. search (each-part, result-word b))))
   act-does locate l = works (length-set (s .reg) 0 (s .pointer)) (λ f h. let b : Word (s .pointer) = omega arith in (omega arith, f .pointed, λ w. search each-part))
   act-does (lane k n) l = works (length-map (laneRule k) n (s .reg)) (λ f h. (omega arith, f .pointed, λ w. search (each-map, laneRule-below)))
   act-does (offset v n) l = works (length-map (λ a. intAdd a v) n (s .reg)) (λ f h. (omega arith, f .pointed, λ w. search (each-map, offset-word)))

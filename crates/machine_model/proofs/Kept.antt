@@ -31,12 +31,12 @@ module _ (g : Given) (lim : Limited (g .ops)) where
   Inner c = c < length (g .ops)
 
   formed : (t : State) → g .mode ≤ byMark → t .at ≤ length (g .ops) → Places (g .ops) Inner (t .calls) (t .table) → length (t .reg) ≤ lanes
-      → Sizes g (t .pointer) (t .counted) (t .refs) (t .channel) (t .taken) (t .outs) → Each (λ x. x ≤ farthest) (t .refs) → Whole (t .counted) → Formed g t
+      → Sizes g (t .pointer) (t .counted) (t .refs) (t .channel) (t .first) (t .taken) (t .outs) → Each (λ x. x ≤ farthest) (t .refs) → Whole (t .counted) → Formed g t
   formed t y a p r z q w = let few : length (t .table) ≤ mostMarks = omega (arith, marks-few g (t .table) (p .rising) (p .marked), lim .few-marks) in search
 
   effect-formed : (s t : State) (o : Op) → Fits o → Formed g s → Effect g Inner s o t → Formed g t
   effect-formed s _ _ h f (turns j ts cs b k) = let p = k (search) in formed _ (f .known) (p .0) (p .1) (f .narrow) (omega arith) (f .pointed) (f .whole)
-  effect-formed s _ o h f (acts p n r m rs ch k os a e w z) =
+  effect-formed s _ o h f (acts p n r m rs ch i k os a e w z) =
       let q = z f h in formed _ (f .known) a (search) (omega (arith, made-few o (length (s .reg)) h (f .narrow))) (q .0) (q .1) (w (f .whole))
 
   -- a step of a patch within the limits leads from a well-formed state to one
@@ -51,4 +51,4 @@ module _ (g : Given) (lim : Limited (g .ops)) where
 -- the fresh state is well formed, for any patch, known mode, input, room and number of cells
 pub fresh-formed : (g : Given) (cells : ℕ) → g .mode ≤ byMark → Formed g (fresh cells)
 unfolding fresh
-fresh-formed g cells y = let n : length (fresh cells .reg) ≤ lanes = omega (arith, length-replicate {A = ℕ} lanes 0) in search (zero-le, inl)
+fresh-formed g cells y = let n : length (fresh cells .reg) ≤ lanes = omega (arith, length-replicate {A = ℕ} lanes 0) in let z : 0 < 256 = omega arith in search (zero-le, inl)

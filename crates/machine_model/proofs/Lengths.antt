@@ -23,7 +23,7 @@ use Rattle.machine_model.proofs.Effects.Effect.{turns, acts}
 module _ (g : Given) where
   effect-whole : (s t : State) (o : Op) → Whole (s .counted) → Effect g (λ j. Unit {0}) s o t → Whole (t .counted)
   effect-whole s _ _ w (turns j ts cs b k) = w
-  effect-whole s _ o w (acts p n r m rs ch k os a e u z) = u w
+  effect-whole s _ o w (acts p n r m rs ch i k os a e u z) = u w
 
   pub step-whole : (s t : State) → Whole (s .counted) → step g s ≡ next t → Whole (t .counted)
   step-whole s t w e = effect-whole s t _ w (next-gives (step g s) t (step-does g (λ j. Unit {0}) (λ j h. tt) s) e)

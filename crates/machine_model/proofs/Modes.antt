@@ -13,7 +13,7 @@ use Rattle.basics.proofs.Clash.{clash}
 use Rattle.basics.proofs.Tests.{byCase}
 use Rattle.ops.specs.Syntax.{Op, Control, Plain, isFunction, isWhile}
 use Rattle.ops.specs.Syntax.Control.{function, call, ret, while, if, else, end}
-use Rattle.ops.specs.Syntax.Plain.{comment, store, move, swap, locate, offset, deref, refer, cell, lane, get, put, peek, poke, alloc, free}
+use Rattle.ops.specs.Syntax.Plain.{comment, store, move, swap, locate, offset, deref, refer, cell, lane, get, put, peek, poke, ffiCall, alloc, free}
 use Rattle.ops.specs.Syntax.Op.{control, set, load, plain}
 use Rattle.machine_model.specs.State.{State, Given, byMark, lane0, goTo, on, withTable}
 use Rattle.machine_model.specs.Scan.{opAt, brackets, toOpen, marks}
@@ -115,7 +115,7 @@ module _ (g : Given) (s : State) (h : HoldsMarks g s) where
 
   effect-keeps : {Q : ℕ → Type 0} (o : Op) (t : State) → op g s ≡ o → step g s ≡ next t → Effect g Q s o t → t .table ≡ s .table
   effect-keeps _ _ is e (turns {c = c} j ts cs b k) = next-gives (step g s) _ (turn-gives g s is tt (turn-keeps c is)) e
-  effect-keeps _ _ is e (acts p n r m rs ch k os a l w z) = refl
+  effect-keeps _ _ is e (acts p n r m rs ch i k os a l w z) = refl
 
   table-stays : (t : State) → step g s ≡ next t → t .table ≡ s .table
   unfolding op
@@ -159,6 +159,7 @@ module _ (g : Given) (s : State) (h : HoldsMarks g s) where
     act-agrees (put o) = refl
     act-agrees peek = refl
     act-agrees poke = refl
+    act-agrees (ffiCall b) = refl
     act-agrees alloc = refl
     act-agrees free = refl
 

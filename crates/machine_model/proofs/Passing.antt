@@ -11,7 +11,7 @@ use lib.ListN.{length, drop, getD, length-drop}
 use lib.Seq.{getD-drop}
 use Rattle.basics.proofs.Clash.{clash}
 use Rattle.ops.specs.Syntax.{Op, Plain}
-use Rattle.ops.specs.Syntax.Plain.{comment, store, move, swap, locate, offset, deref, refer, cell, lane, get, put, peek, poke, alloc, free}
+use Rattle.ops.specs.Syntax.Plain.{comment, store, move, swap, locate, offset, deref, refer, cell, lane, get, put, peek, poke, ffiCall, alloc, free}
 use Rattle.ops.specs.Syntax.Op.{control, set, load, plain}
 use Rattle.machine_model.specs.State.{State, Given, goTo, on}
 use Rattle.machine_model.specs.Scan.{opAt}
@@ -107,6 +107,7 @@ plain-is (get m) e = clash (cc)
 plain-is (put m) e = clash (cc)
 plain-is peek e = clash (cc)
 plain-is poke e = clash (cc)
+plain-is (ffiCall b) e = clash (cc)
 plain-is alloc e = clash (cc)
 plain-is free e = clash (cc)
 

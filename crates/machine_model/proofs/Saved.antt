@@ -66,7 +66,7 @@ module _ (g : Given) where
 
     effect-saves : {Q : ℕ → Type 0} (o : Op) (t : State) → op g s ≡ o → step g s ≡ next t → Effect g Q s o t → SavedCalls t
     effect-saves _ _ is e (turns {c = c} j ts cs b k) = next-gives (step g s) _ (turn-gives g s is tt (turn-saves c is)) e
-    effect-saves _ _ is e (acts p n r m rs ch k os a l w z) = h
+    effect-saves _ _ is e (acts p n r m rs ch i k os a l w z) = h
 
   step-saves : (s t : State) → SavedCalls s → step g s ≡ next t → SavedCalls t
   unfolding op

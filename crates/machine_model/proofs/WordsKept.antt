@@ -20,7 +20,7 @@ use Rattle.machine_model.proofs.Kept.{step-formed}
 module _ (g : Given) (lim : Limited (g .ops)) where
   effect-words : (s t : State) (o : Op) → Fits o → Formed g s → Words g s → Effect g (λ j. Unit {0}) s o t → Words g t
   effect-words s _ _ h f w (turns j ts cs b k) = search
-  effect-words s _ o h f w (acts p n r m rs ch k os a e u z) = let v = z f h .2 w in search
+  effect-words s _ o h f w (acts p n r m rs ch i k os a e u z) = let v = z f h .2 w in search
 
   -- a step of a well-formed state of words gives words
   pub step-words : (s t : State) → Formed g s → Words g s → step g s ≡ next t → Words g t

@@ -39,6 +39,7 @@ pub record Formed (g : Given) (s : State) : Type 0 where
   pub few-calls : length (s .calls) ≤ depth
   pub few-refs : length (s .refs) ≤ depth
   pub few-sent : length (s .channel) ≤ depth
+  pub in-ring : s .first < depth
   pub within : s .at ≤ length (g .ops)
   pub saved : Each (λ c. c < length (g .ops)) (s .calls)
   pub pointed : Each (λ p. p ≤ farthest) (s .refs)

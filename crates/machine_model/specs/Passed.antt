@@ -5,7 +5,7 @@ use mathlib.Core.Bool.{Bool, true, false, cond}
 use mathlib.Core.List.{List, [], _∷_}
 use lib.ListN.{drop}
 use Rattle.ops.specs.Syntax.{Op, Plain}
-use Rattle.ops.specs.Syntax.Plain.{comment, store, move, swap, locate, offset, deref, refer, cell, lane, get, put, peek, poke, alloc, free}
+use Rattle.ops.specs.Syntax.Plain.{comment, store, move, swap, locate, offset, deref, refer, cell, lane, get, put, peek, poke, ffiCall, alloc, free}
 use Rattle.ops.specs.Syntax.Op.{control, set, load, plain}
 use Rattle.machine_model.specs.State.{State, Given, goTo}
 
@@ -24,6 +24,7 @@ isCommentOf (get m) = false
 isCommentOf (put m) = false
 isCommentOf peek = false
 isCommentOf poke = false
+isCommentOf (ffiCall b) = false
 isCommentOf alloc = false
 isCommentOf free = false
 

@@ -25,7 +25,8 @@ abbrev pub given : List Op → ℕ → List ℕ → ℕ → Given
 given os mode input room = record { ops = os; mode = mode; input = input; room = room }
 
 -- position, pointer and counted length; register, lent tape and function table; the saved calls, the saved pointers and the channel, the
--- newest last; the input place, the outputs, and whether it has halted
+-- newest last; the place of its oldest value, since "the channel reuses freed room" as a ring of 256 places; the input place, the outputs, and whether it
+-- has halted
 pub record State : Type 0 where
   pub at : ℕ
   pub pointer : ℕ
@@ -36,6 +37,7 @@ pub record State : Type 0 where
   pub calls : List ℕ
   pub refs : List ℕ
   pub channel : List ℕ
+  pub first : ℕ
   pub taken : ℕ
   pub outs : List ℕ
   pub halted : Bool
@@ -54,6 +56,7 @@ fresh cells =
       calls = [];
       refs = [];
       channel = [];
+      first = 0;
       taken = 0;
       outs = [];
       halted = false;
@@ -63,55 +66,55 @@ fresh cells =
 abbrev pub lane0 : State → ℕ
 lane0 s = getD (s .reg) 0 0
 
--- ---- changes of a state: one field new, the others as they were
+-- ---- changes of a state: one field new, the others as they were; the channel with its first place
 
 abbrev pub goTo : State → ℕ → State
 goTo s p =
-    record { at = p; pointer = s .pointer; counted = s .counted; reg = s .reg; tape = s .tape; table = s .table; calls = s .calls; refs = s .refs; channel = s .channel; taken = s .taken; outs = s .outs; halted = s .halted }
+    record { at = p; pointer = s .pointer; counted = s .counted; reg = s .reg; tape = s .tape; table = s .table; calls = s .calls; refs = s .refs; channel = s .channel; first = s .first; taken = s .taken; outs = s .outs; halted = s .halted }
 
 abbrev pub withPointer : State → ℕ → State
 withPointer s p =
-    record { at = s .at; pointer = p; counted = s .counted; reg = s .reg; tape = s .tape; table = s .table; calls = s .calls; refs = s .refs; channel = s .channel; taken = s .taken; outs = s .outs; halted = s .halted }
+    record { at = s .at; pointer = p; counted = s .counted; reg = s .reg; tape = s .tape; table = s .table; calls = s .calls; refs = s .refs; channel = s .channel; first = s .first; taken = s .taken; outs = s .outs; halted = s .halted }
 
 abbrev pub withCounted : State → ℕ → State
 withCounted s n =
-    record { at = s .at; pointer = s .pointer; counted = n; reg = s .reg; tape = s .tape; table = s .table; calls = s .calls; refs = s .refs; channel = s .channel; taken = s .taken; outs = s .outs; halted = s .halted }
+    record { at = s .at; pointer = s .pointer; counted = n; reg = s .reg; tape = s .tape; table = s .table; calls = s .calls; refs = s .refs; channel = s .channel; first = s .first; taken = s .taken; outs = s .outs; halted = s .halted }
 
 abbrev pub withReg : State → List ℕ → State
 withReg s r =
-    record { at = s .at; pointer = s .pointer; counted = s .counted; reg = r; tape = s .tape; table = s .table; calls = s .calls; refs = s .refs; channel = s .channel; taken = s .taken; outs = s .outs; halted = s .halted }
+    record { at = s .at; pointer = s .pointer; counted = s .counted; reg = r; tape = s .tape; table = s .table; calls = s .calls; refs = s .refs; channel = s .channel; first = s .first; taken = s .taken; outs = s .outs; halted = s .halted }
 
 abbrev pub withTape : State → List ℕ → State
 withTape s t =
-    record { at = s .at; pointer = s .pointer; counted = s .counted; reg = s .reg; tape = t; table = s .table; calls = s .calls; refs = s .refs; channel = s .channel; taken = s .taken; outs = s .outs; halted = s .halted }
+    record { at = s .at; pointer = s .pointer; counted = s .counted; reg = s .reg; tape = t; table = s .table; calls = s .calls; refs = s .refs; channel = s .channel; first = s .first; taken = s .taken; outs = s .outs; halted = s .halted }
 
 abbrev pub withTable : State → List ℕ → State
 withTable s t =
-    record { at = s .at; pointer = s .pointer; counted = s .counted; reg = s .reg; tape = s .tape; table = t; calls = s .calls; refs = s .refs; channel = s .channel; taken = s .taken; outs = s .outs; halted = s .halted }
+    record { at = s .at; pointer = s .pointer; counted = s .counted; reg = s .reg; tape = s .tape; table = t; calls = s .calls; refs = s .refs; channel = s .channel; first = s .first; taken = s .taken; outs = s .outs; halted = s .halted }
 
 abbrev pub withCalls : State → List ℕ → State
 withCalls s cs =
-    record { at = s .at; pointer = s .pointer; counted = s .counted; reg = s .reg; tape = s .tape; table = s .table; calls = cs; refs = s .refs; channel = s .channel; taken = s .taken; outs = s .outs; halted = s .halted }
+    record { at = s .at; pointer = s .pointer; counted = s .counted; reg = s .reg; tape = s .tape; table = s .table; calls = cs; refs = s .refs; channel = s .channel; first = s .first; taken = s .taken; outs = s .outs; halted = s .halted }
 
 abbrev pub withRefs : State → List ℕ → State
 withRefs s rs =
-    record { at = s .at; pointer = s .pointer; counted = s .counted; reg = s .reg; tape = s .tape; table = s .table; calls = s .calls; refs = rs; channel = s .channel; taken = s .taken; outs = s .outs; halted = s .halted }
+    record { at = s .at; pointer = s .pointer; counted = s .counted; reg = s .reg; tape = s .tape; table = s .table; calls = s .calls; refs = rs; channel = s .channel; first = s .first; taken = s .taken; outs = s .outs; halted = s .halted }
 
-abbrev pub withChannel : State → List ℕ → State
-withChannel s c =
-    record { at = s .at; pointer = s .pointer; counted = s .counted; reg = s .reg; tape = s .tape; table = s .table; calls = s .calls; refs = s .refs; channel = c; taken = s .taken; outs = s .outs; halted = s .halted }
+abbrev pub withChannel : State → ℕ → List ℕ → State
+withChannel s f c =
+    record { at = s .at; pointer = s .pointer; counted = s .counted; reg = s .reg; tape = s .tape; table = s .table; calls = s .calls; refs = s .refs; channel = c; first = f; taken = s .taken; outs = s .outs; halted = s .halted }
 
 abbrev pub withTaken : State → ℕ → State
 withTaken s n =
-    record { at = s .at; pointer = s .pointer; counted = s .counted; reg = s .reg; tape = s .tape; table = s .table; calls = s .calls; refs = s .refs; channel = s .channel; taken = n; outs = s .outs; halted = s .halted }
+    record { at = s .at; pointer = s .pointer; counted = s .counted; reg = s .reg; tape = s .tape; table = s .table; calls = s .calls; refs = s .refs; channel = s .channel; first = s .first; taken = n; outs = s .outs; halted = s .halted }
 
 abbrev pub withOuts : State → List ℕ → State
 withOuts s os =
-    record { at = s .at; pointer = s .pointer; counted = s .counted; reg = s .reg; tape = s .tape; table = s .table; calls = s .calls; refs = s .refs; channel = s .channel; taken = s .taken; outs = os; halted = s .halted }
+    record { at = s .at; pointer = s .pointer; counted = s .counted; reg = s .reg; tape = s .tape; table = s .table; calls = s .calls; refs = s .refs; channel = s .channel; first = s .first; taken = s .taken; outs = os; halted = s .halted }
 
 abbrev pub halt : State → State
 halt s =
-    record { at = s .at; pointer = s .pointer; counted = s .counted; reg = s .reg; tape = s .tape; table = s .table; calls = s .calls; refs = s .refs; channel = s .channel; taken = s .taken; outs = s .outs; halted = true }
+    record { at = s .at; pointer = s .pointer; counted = s .counted; reg = s .reg; tape = s .tape; table = s .table; calls = s .calls; refs = s .refs; channel = s .channel; first = s .first; taken = s .taken; outs = s .outs; halted = true }
 
 -- one op on
 abbrev pub on : State → State

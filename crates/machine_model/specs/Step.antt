@@ -1,6 +1,6 @@
 -- A step, op by op as 01-scope.md has them under 'A step'. The numbers of an op stand in the order in which they are tested, and a refused
 -- step leaves nothing behind: it gives its number, a lane by 02's ask 3, and no state. Assumes nothing.
-use Prim.Native.Nat.{ℕ, suc, _+_, _-_, _*_, _/_, _^_}
+use Prim.Native.Nat.{ℕ, suc, _+_, _-_, _*_, _/_, _%_, _^_}
 use mathlib.Core.Bool.{Bool, true, false, cond, _&&_, _||_}
 use mathlib.Core.List.{List, [], _∷_, _++_, reverse}
 use mathlib.Core.Option.{Option, none, some}
@@ -12,7 +12,7 @@ use Rattle.lanes.specs.Lane.{cellRule, laneRule}
 use Rattle.lane_loops.specs.Loops.{zipTo, mapTo}
 use Rattle.ops.specs.Syntax.{Op, Control, Plain, needs, isWhile}
 use Rattle.ops.specs.Syntax.Control.{function, call, ret, while, if, else, end}
-use Rattle.ops.specs.Syntax.Plain.{comment, store, move, swap, locate, offset, deref, refer, cell, lane, get, put, peek, poke, alloc, free}
+use Rattle.ops.specs.Syntax.Plain.{comment, store, move, swap, locate, offset, deref, refer, cell, lane, get, put, peek, poke, ffiCall, alloc, free}
 use Rattle.ops.specs.Syntax.Op.{control, set, load, plain}
 use Rattle.testing_device.specs.Device.{getOf, putOf}
 use Rattle.testing_device.specs.Answers.{gotNumber, putNumber, peekedNumber, pokedNumber}
@@ -21,6 +21,8 @@ use Rattle.testing_device.specs.declared.device.Got.the-variants as got
 use Rattle.testing_device.specs.declared.device.Put.the-variants as put
 use Rattle.testing_device.specs.declared.device.Peeked.the-variants as peeked
 use Rattle.testing_device.specs.declared.device.Poked.the-variants as poked
+use Rattle.standard_device.specs.Bindings.{inputs, resultOf, calledNumber}
+use Rattle.standard_device.specs.declared.bindings.Called.the-variants as ffi
 use Rattle.machine_model.specs.State.{State, Given, rustTable, depth, farthest, longest, firstBlock, lane0, goTo, withPointer, withCounted, withReg, withTape, withTable, withCalls, withRefs, withChannel, withTaken, withOuts, halt, on, setLane}
 use Rattle.machine_model.specs.Scan.{opAt, brackets, functions, toEnd, toElse, toOpen, kth}
 
@@ -159,15 +161,19 @@ gotten s (got.Value v place) = next (on (withTaken (setLane s v) place))
 abbrev pub write : Given → State → List ℕ → Outcome
 write g s vs = bar (ltb (g .room) (length (s .outs) + length vs)) (putNumber put.NoRoom) (next (on (withOuts s (s .outs ++ vs))))
 
+-- the channel's first place once n values are taken
+abbrev pub firstAfter : State → ℕ → ℕ
+firstAfter s n = (s .first + n) % depth
+
 -- the channel's oldest value, or 33
 abbrev pub peekAt : State → List ℕ → Outcome
 peekAt s [] = refused (peekedNumber peeked.Empty) 0
-peekAt s (v ∷ vs) = next (on (withChannel (setLane s v) vs))
+peekAt s (v ∷ vs) = next (on (withChannel (setLane s v) (firstAfter s 1) vs))
 
 -- ---- the ops that keep the register's length
 
 unfoldable pub act : Given → Plain → State → Outcome
-unfolding cellRule laneRule zipTo mapTo getOf putOf
+unfolding cellRule laneRule zipTo mapTo getOf putOf resultOf
 -- "Order 21 (Store), 23 (only if n > 0)"
 act g (store n) s =
     lack (beyond (s .pointer) n (length (s .tape))) 23 (ahead (s .pointer) (length (s .tape)))
@@ -195,7 +201,11 @@ act g alloc s =
 act g (get m) s = gotten s (getOf m (g .input) (s .taken))
 act g (put m) s = write g s (putOf m (lane0 s))
 act g peek s = peekAt s (s .channel)
-act g poke s = bar (leb depth (length (s .channel))) (pokedNumber poked.Full) (next (on (withChannel s (s .channel ++ (lane0 s ∷ [])))))
+act g poke s = bar (leb depth (length (s .channel))) (pokedNumber poked.Full) (next (on (withChannel s (s .first) (s .channel ++ (lane0 s ∷ [])))))
+-- 02, ask 9: "Each takes its values from the front of the channel and puts its result at the back"; "33 when too few values wait, with none taken"
+act g (ffiCall b) s =
+    bar (ltb (length (s .channel)) (inputs b)) (calledNumber ffi.TooFew)
+    (next (on (withChannel s (firstAfter s (inputs b)) (drop (inputs b) (s .channel) ++ (resultOf b (s .channel) ∷ [])))))
 -- "Where: 21; pointer to lane 0. Lane-only ops: 21"
 act g locate s = next (on (setLane s (s .pointer)))
 act g (lane k n) s = next (on (withReg s (mapTo (laneRule k) n (s .reg))))

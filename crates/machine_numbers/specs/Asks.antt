@@ -16,3 +16,4 @@ pub record PayloadIn (k n a : ℕ) (bs : List ℕ) : Type 0 where
   pub by : k ≡ row.offset → a + 8 ≤ length bs
   pub gets : k ≡ row.get → a + 2 ≤ length bs
   pub puts : k ≡ row.put → a + 2 ≤ length bs
+  pub binds : k ≡ row.standardCall → a + 2 ≤ length bs

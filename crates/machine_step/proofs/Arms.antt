@@ -13,8 +13,9 @@ use Rattle.lane_loops.proofs.Rest.{Past}
 use Rattle.kind_table.specs.Rows as row
 use Rattle.kind_table.specs.Columns.{tapeFamily, cellFamily, laneFamily}
 use Rattle.kind_table.specs.Kinds.{familyOf}
-use Rattle.ops.specs.Decode.{modeIn}
+use Rattle.ops.specs.Decode.{modeIn, bindingIn}
 use Rattle.ops.specs.declared.op.Mode.{Mode}
+use Rattle.ops.specs.declared.op.Binding.{Binding}
 use Rattle.machine_numbers.specs.declared.numbers.Numbers.{Numbers}
 use Rattle.machine_numbers.specs.Numbers.{atPosition, atPointer, ofLength, ofLanes, ofDepth, ofSaved, ofFunctions, ofMode, ofRing, ofTaken, ofWritten, next, answered, left, onward, OpAnswer, OneList, oneList, steered, swapped, taped}
 use Rattle.control_ops.specs.CanSteer.{Steers, CanCall}
@@ -22,7 +23,7 @@ use Rattle.control_ops.specs.Control.{functionOf, callOf, retOf, whileOf, ifOf,
 use Rattle.tape_ops.specs.Tape.{setOf, storeOf, loadOf, moveOf, whereOf, derefOf, referOf, allocOf, inRegister, inTape, inRefs, tapeOf}
 use Rattle.lane_ops.specs.Lane.{swapOf, offsetOf, LaneDone}
 use Rattle.lane_ops.proofs.Rows.{isLane}
-use Rattle.device_ops.specs.Device.{gettingOf, puttingOf, peekingOf, pokingOf, inLanes, inChannel, inOutput, deviceOf}
+use Rattle.device_ops.specs.Device.{gettingOf, puttingOf, peekingOf, pokingOf, callingOf, inLanes, inChannel, inOutput, deviceOf}
 use Rattle.machine_step.specs.Held.{Held, after, steering, laning, swapping, taping, telling}
 use Rattle.machine_step.specs.Step.{opOf}
 use Rattle.machine_step.specs.CanStep.{CanOp}
@@ -170,6 +171,12 @@ module _ {k n a : ℕ} {ks ps ts fs bs : List ℕ} {c : Held} (h : CanOp k n a k
       → after (left r (c .numbers .position) (ofRing (c .numbers) (c .numbers .first) w′)) (c .calls) (c .refs) (c .register) (c .tape) (c .table) ch′ (c .output) ≡ opOf k n a ks bs input c
   unfolding opOf deviceOf familyOf pick
   pokes e input r w′ ch′ w = rw (key e) (ap (λ (x : OneList). telling c (inChannel (c .register) (c .output) x)) (w (c .numbers)))
+
+  pub binds : k % 64 ≡ row.standardCall → {v : Binding} → v ≡ bindingIn (u16At bs a) → (input : List ℕ) (r i′ w′ : ℕ) (ch′ : List ℕ)
+      → ((z : Numbers) → oneList (onward r (ofRing z i′ w′)) ch′ ≡ callingOf v (ofRing z (c .numbers .first) (c .numbers .waiting)) (c .channel))
+      → after (left r (c .numbers .position) (ofRing (c .numbers) i′ w′)) (c .calls) (c .refs) (c .register) (c .tape) (c .table) ch′ (c .output) ≡ opOf k n a ks bs input c
+  unfolding opOf deviceOf familyOf pick
+  binds e u input r i′ w′ ch′ w = rw (key e, ← u) (ap (λ (x : OneList). telling c (inChannel (c .register) (c .output) x)) (w (c .numbers)))
 
   pub offsets : k % 64 ≡ row.offset → {v : ℕ} → v ≡ u64At bs a → (input : List ℕ) (r : ℕ) (g′ : List ℕ)
       → ((z : Numbers) → oneList (onward r z) g′ ≡ offsetOf v n z (c .register))

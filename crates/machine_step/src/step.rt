@@ -18,6 +18,7 @@ use machine_numbers::numbers::DONE;
 use machine_numbers::numbers::HALTED;
 use machine_numbers::numbers::JUMPED;
 use machine_numbers::numbers::Numbers;
+use ops::op::binding_at;
 use ops::op::mode_at;
 use tape_ops::tape;
 
@@ -112,7 +113,10 @@ fn op(
         row::POW => DONE,
         row::PEEK => device::peek(first, waiting, register, channel),
         row::POKE => device::poke(*first, waiting, register, channel),
-        row::STANDARD_CALL => DONE,
+        row::STANDARD_CALL => {
+            let binding = binding_at(bytes, a);
+            device::ffi_call(binding, first, waiting, channel)
+        },
         _ => lane::lane_op(k, n, *pointer, *counted, register, tape),
     }
 }

@@ -10,10 +10,12 @@ use Rattle.lanes.specs.declared.lane.LaneOp.{LaneOp}
 use Rattle.lanes.specs.declared.lane.LaneOp.the-variants.{BitwiseNot, Not, Neg, Inc, Dec, IsNonNegative, ToInt, ToFloat, FloatNeg, FloatIsNonNegative}
 use Rattle.ops.specs.declared.op.Mode.{Mode}
 use Rattle.ops.specs.declared.op.Mode.the-variants.{Char, Int, Other}
+use Rattle.ops.specs.declared.op.Binding.{Binding}
+use Rattle.ops.specs.declared.op.Binding.the-variants as binding
 use Rattle.byte_fields.specs.Bytes.{u16At, u32At, u64At, valuesAt, textAt}
 use Rattle.ops.specs.Syntax.{Plain, Op}
 use Rattle.ops.specs.Syntax.Control.{function, call, ret, while, if, else, end}
-use Rattle.ops.specs.Syntax.Plain.{comment, store, move, swap, locate, offset, deref, refer, cell, lane, get, put, peek, poke, alloc, free}
+use Rattle.ops.specs.Syntax.Plain.{comment, store, move, swap, locate, offset, deref, refer, cell, lane, get, put, peek, poke, ffiCall, alloc, free}
 use Rattle.ops.specs.Syntax.Sort.{ints, floats}
 use Rattle.ops.specs.Syntax.Op.{control, set, load, plain}
 use Rattle.ops.specs.Patch.{Item, Loaded, patchOf}
@@ -37,7 +39,7 @@ rows =
     ∷ set floats [] ∷ plain alloc ∷ plain free ∷ lanes ToInt ∷ lanes ToFloat
     ∷ cells FloatAdd ∷ cells FloatSub ∷ cells FloatMul ∷ cells FloatDiv ∷ cells FloatRem ∷ lanes FloatNeg ∷ lanes FloatIsNonNegative
     ∷ plain free ∷ plain free ∷ plain free ∷ plain free ∷ plain free ∷ plain free ∷ plain free
-    ∷ plain peek ∷ plain poke ∷ plain free ∷ []
+    ∷ plain peek ∷ plain poke ∷ plain (ffiCall binding.SquareRoot) ∷ []
 
 unfoldable pub rowAt : ℕ → Op
 unfolding rows
@@ -46,6 +48,10 @@ rowAt k = getD rows k (plain free)
 -- "u16 mode (0 char, 1 int, 2 float, 3 any other)"; 2 is refused
 abbrev pub modeIn : ℕ → Mode
 modeIn m = cond (eqb m 0) Char (cond (eqb m 1) Int Other)
+
+-- 02, ask 9: "payload u16, 0 for square_root, 1 for add"
+abbrev pub bindingIn : ℕ → Binding
+bindingIn b = cond (eqb b 0) binding.SquareRoot binding.Add
 
 -- an op with its payload read at byte p of s: "lane count u32; Move i64; Offset i64 then u32; either Set 8 bytes a value"; n
 -- values or n bytes
@@ -64,6 +70,7 @@ plainWith s p n (get m) = get (modeIn (u16At s p))
 plainWith s p n (put m) = put (modeIn (u16At s p))
 plainWith s p n peek = peek
 plainWith s p n poke = poke
+plainWith s p n (ffiCall b) = ffiCall (bindingIn (u16At s p))
 plainWith s p n alloc = alloc
 plainWith s p n free = free
 
@@ -94,6 +101,7 @@ plainCount (get m) = 0
 plainCount (put m) = 0
 plainCount peek = 0
 plainCount poke = 0
+plainCount (ffiCall b) = 0
 plainCount alloc = 0
 plainCount free = 0
 

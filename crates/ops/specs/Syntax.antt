@@ -9,6 +9,7 @@ use Rattle.lanes.specs.declared.lane.CellOp.the-variants.{Index, BitwiseNand, B
 use Rattle.lanes.specs.declared.lane.LaneOp.{LaneOp}
 use Rattle.lanes.specs.declared.lane.LaneOp.the-variants.{BitwiseNot, Not, Neg, Inc, Dec, IsNonNegative, ToInt, ToFloat, FloatNeg, FloatIsNonNegative}
 use Rattle.ops.specs.declared.op.Mode.{Mode}
+use Rattle.ops.specs.declared.op.Binding.{Binding}
 
 -- the ops after which one lane is known
 pub data Control : Type 0 where
@@ -24,7 +25,9 @@ pub data Plain : Type 0 where
   cell : CellOp → ℕ → Plain
   lane : LaneOp → ℕ → Plain
   get put : Mode → Plain
-  peek poke alloc free : Plain
+  peek poke : Plain
+  ffiCall : Binding → Plain
+  alloc free : Plain
 
 -- core Set's values, or standard Set's
 pub data Sort : Type 0 where
@@ -110,6 +113,7 @@ plainNeeds (get m) = 1
 plainNeeds (put m) = 1
 plainNeeds peek = 1
 plainNeeds poke = 1
+plainNeeds (ffiCall b) = 0
 plainNeeds alloc = 1
 plainNeeds free = 0
 
@@ -179,6 +183,7 @@ plainKind (get m) = row.get
 plainKind (put m) = row.put
 plainKind peek = standard row.peek
 plainKind poke = standard row.poke
+plainKind (ffiCall b) = standard row.standardCall
 plainKind alloc = standard row.alloc
 plainKind free = standard row.free
 
@@ -208,6 +213,7 @@ plainArg (get m) = 0
 plainArg (put m) = 0
 plainArg peek = 0
 plainArg poke = 0
+plainArg (ffiCall b) = 0
 plainArg alloc = 0
 plainArg free = 0
 

@@ -9,8 +9,10 @@ use Rattle.byte_fields.specs.Bytes.{le16, le32, le64}
 use Rattle.byte_fields.specs.Storage.{placed}
 use Rattle.ops.specs.declared.op.Mode.{Mode}
 use Rattle.ops.specs.declared.op.Mode.the-variants.{Char, Int, Other}
+use Rattle.ops.specs.declared.op.Binding.{Binding}
+use Rattle.ops.specs.declared.op.Binding.the-variants as binding
 use Rattle.ops.specs.Syntax.{Plain, Op, kindOf, isFunction}
-use Rattle.ops.specs.Syntax.Plain.{comment, store, move, swap, locate, offset, deref, refer, cell, lane, get, put, peek, poke, alloc, free}
+use Rattle.ops.specs.Syntax.Plain.{comment, store, move, swap, locate, offset, deref, refer, cell, lane, get, put, peek, poke, ffiCall, alloc, free}
 use Rattle.ops.specs.Syntax.Op.{control, set, load, plain}
 use Rattle.ops.specs.declared.writer.Written.{Written}
 use Rattle.ops.specs.declared.writer.Written.the-variants.{Next, NoRoom}
@@ -58,6 +60,11 @@ modeNumber Char = 0
 modeNumber Int = 1
 modeNumber Other = 3
 
+-- 02, ask 9: "0 for square_root, 1 for add"
+abbrev pub bindingNumber : Binding → ℕ
+bindingNumber binding.SquareRoot = 0
+bindingNumber binding.Add = 1
+
 -- "8 bytes a value"
 unfoldable pub valueBytes : List ℕ → List ℕ
 valueBytes [] = []
@@ -80,6 +87,7 @@ plainPayload (get m) = le16 (modeNumber m)
 plainPayload (put m) = le16 (modeNumber m)
 plainPayload peek = []
 plainPayload poke = []
+plainPayload (ffiCall b) = le16 (bindingNumber b)
 plainPayload alloc = []
 plainPayload free = []
 
@@ -119,6 +127,7 @@ PlainFits (get m) = Unit {0}
 PlainFits (put m) = Unit {0}
 PlainFits peek = Unit {0}
 PlainFits poke = Unit {0}
+PlainFits (ffiCall b) = Unit {0}
 PlainFits alloc = Unit {0}
 PlainFits free = Unit {0}
 

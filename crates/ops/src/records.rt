@@ -4,7 +4,7 @@ ghost use mathlib.Core.Bool.{true};
 ghost use Prim.Native.Nat.{_+_, _≤_};
 ghost use lib.ListN.{length};
 ghost use Rattle.basics.specs.Limits.{mostBytes};
-ghost use Rattle.ops.specs.Record.{lengthOk, countOf, modeOf, bodyAt, recordAt, recordFrom};
+ghost use Rattle.ops.specs.Record.{lengthOk, countOf, namedOf, lastOf, bodyAt, recordAt, recordFrom};
 use crate::refusals::Refusal;
 use byte_fields::read::u16_at;
 use byte_fields::read::u32_at;
@@ -13,10 +13,12 @@ use kind_table::kinds::index_of;
 use kind_table::kinds::kind_at;
 use kind_table::shape;
 
-// The last mode, and the one that is left out.
+// The last mode, the one that is left out, and the last binding.
 const MODES: usize = 3;
 
 const FLOAT: usize = 2;
+
+const BINDINGS: usize = 1;
 
 // A whole record: the row of its kind, the first byte and the length of its payload, the lanes, values or bytes
 // that the payload counts, and the byte after it. Or the refusal, and the record's first byte.
@@ -54,6 +56,7 @@ fn length_ok(form: u8, len: usize) -> bool
         shape::MOVE => len == 8,
         shape::OFFSET => len == 12,
         shape::MODE => len == 2,
+        shape::BINDING => len == 2,
         _ => len == 0,
     }
 }
@@ -72,15 +75,26 @@ fn count_of(bytes: &[u8], form: u8, at: usize, len: usize) -> usize
     }
 }
 
-// The mode that a payload names; 0 where it names none.
-fn mode_of(bytes: &[u8], form: u8, at: usize, len: usize) -> usize
+// The mode or the binding that a payload names; 0 where it names none.
+fn named_of(bytes: &[u8], form: u8, at: usize, len: usize) -> usize
     requires { ⌜ (at + len ≤ length (now bytes)) × (lengthOk form len ≡ true) ⌝ }
-    ensures { λ r. ⌜ r ≡ modeOf (now (bytes .entry)) form at ⌝ }
+    ensures { λ r. ⌜ r ≡ namedOf (now (bytes .entry)) form at ⌝ }
 {
     match form {
         shape::MODE => u16_at(bytes, at),
+        shape::BINDING => u16_at(bytes, at),
         _ => 0,
     }
+}
+
+// The last number that a payload may name.
+fn last_of(form: u8) -> usize
+    ensures { λ r. ⌜ r ≡ lastOf form ⌝ }
+{
+    if form == shape::BINDING {
+        return BINDINGS;
+    }
+    MODES
 }
 
 // The record at byte `at` whose kind is row k and whose payload has `len` bytes.
@@ -110,14 +124,15 @@ fn body_at(bytes: &[u8], at: usize, k: usize, len: usize) -> Record
             place: at,
         };
     }
-    let mode = mode_of(bytes, form, body, len);
-    if MODES < mode {
+    let named = named_of(bytes, form, body, len);
+    let last = last_of(form);
+    if last < named {
         return Record::Bad {
-            refusal: Refusal::WrongMode,
+            refusal: Refusal::WrongNumber,
             place: at,
         };
     }
-    if mode == FLOAT {
+    if named == FLOAT {
         return Record::Bad {
             refusal: Refusal::LeftOut,
             place: at,

@@ -9,7 +9,7 @@ use lib.Dec.{T, ltb, eqb, eqb→eq}
 use Rattle.ops.specs.Syntax.{Op, Control, Plain, Bracket, bracket}
 use Rattle.ops.specs.Syntax.Bracket.{up, down, mid, flat}
 use Rattle.ops.specs.Syntax.Control.{function, call, ret, while, if, else, end}
-use Rattle.ops.specs.Syntax.Plain.{comment, store, move, swap, locate, offset, deref, refer, cell, lane, get, put, peek, poke, alloc, free}
+use Rattle.ops.specs.Syntax.Plain.{comment, store, move, swap, locate, offset, deref, refer, cell, lane, get, put, peek, poke, ffiCall, alloc, free}
 use Rattle.ops.specs.Syntax.Op.{control, set, load, plain}
 use Rattle.kind_table.specs.Kinds.{need, after}
 use Rattle.ops.specs.Patch.{Item, rowIn, countIn}
@@ -101,6 +101,7 @@ module _ (s : List ℕ) (p n : ℕ) where
   plain-asks (put m) = refl
   plain-asks peek = refl
   plain-asks poke = refl
+  plain-asks (ffiCall b) = refl
   plain-asks alloc = refl
   plain-asks free = refl
 
@@ -126,6 +127,7 @@ module _ (s : List ℕ) (p n : ℕ) where
   plain-after (put m) = refl
   plain-after peek = refl
   plain-after poke = refl
+  plain-after (ffiCall b) = refl
   plain-after alloc = refl
   plain-after free = refl
 

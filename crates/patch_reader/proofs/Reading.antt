@@ -16,7 +16,7 @@ use Rattle.ops.specs.Record.{recordAt, recordFrom}
 use Rattle.ops.specs.Patch.{Item, item, rowIn, countIn, needIn, payloadIn, Loaded, ending, stop, push, walk, patchOf, markOf}
 use Rattle.patch_reader.specs.Answer.{readOf, refusedAt}
 use Rattle.ops.specs.declared.refusals.Refusal.{Refusal}
-use Rattle.ops.specs.declared.refusals.Refusal.the-variants.{CutShort, WrongLength, UnknownKind, LeftOut, TooManyLanes, WrongMode, TooManyOps, TooManyMarks, FileTooLong}
+use Rattle.ops.specs.declared.refusals.Refusal.the-variants.{CutShort, WrongLength, UnknownKind, LeftOut, TooManyLanes, WrongNumber, TooManyOps, TooManyMarks, FileTooLong}
 use Rattle.ops.specs.declared.records.Record.{Record}
 use Rattle.ops.specs.declared.records.Record.the-variants.{Whole, Bad}
 use Rattle.patch_reader.specs.declared.reader.Read.{Read}
@@ -101,7 +101,7 @@ numbered WrongLength = refl
 numbered UnknownKind = refl
 numbered LeftOut = refl
 numbered TooManyLanes = refl
-numbered WrongMode = refl
+numbered WrongNumber = refl
 numbered TooManyOps = refl
 numbered TooManyMarks = refl
 numbered FileTooLong = refl

@@ -9,7 +9,7 @@ use lib.Dec.{ltb, leb, eqb}
 use lib.ListN.{length}
 use Rattle.byte_fields.specs.Bytes.{u16At, u32At}
 use Rattle.kind_table.specs.Kinds.{shape, kindAt, indexOf}
-use Rattle.ops.specs.Record.{recordAt, bodyAt, lengthOk, countOf, modeOf}
+use Rattle.ops.specs.Record.{recordAt, bodyAt, lengthOk, countOf, namedOf, lastOf}
 use Rattle.ops.specs.declared.refusals.Refusal.{Refusal}
 use Rattle.ops.specs.declared.records.Record.{Record}
 use Rattle.ops.specs.declared.records.Record.the-variants.{Whole, Bad}
@@ -31,16 +31,16 @@ pub record Tells (s : List ℕ) (p k b l n next : ℕ) : Type 0 where
   pub kept : eqb (shape (kindAt k)) 7 ≡ false
   pub fits : lengthOk (shape (kindAt k)) l ≡ true
   pub few : n ≤ 1024
-  pub moded : modeOf s (shape (kindAt k)) b ≤ 3
-  pub float : eqb (modeOf s (shape (kindAt k)) b) 2 ≡ false
+  pub named : namedOf s (shape (kindAt k)) b ≤ lastOf (shape (kindAt k))
+  pub float : eqb (namedOf s (shape (kindAt k)) b) 2 ≡ false
 
 record Body (s : List ℕ) (p K L k b l n next : ℕ) : Type 0 where
   is : Whole K (p + 6) L (countOf s (shape (kindAt K)) (p + 6) L) (p + 6 + L) ≡ Whole k b l n next
   kept : eqb (shape (kindAt K)) 7 ≡ false
   fits : not (lengthOk (shape (kindAt K)) L) ≡ false
   few : ltb 1024 (countOf s (shape (kindAt K)) (p + 6) L) ≡ false
-  moded : ltb 3 (modeOf s (shape (kindAt K)) (p + 6)) ≡ false
-  float : eqb (modeOf s (shape (kindAt K)) (p + 6)) 2 ≡ false
+  named : ltb (lastOf (shape (kindAt K))) (namedOf s (shape (kindAt K)) (p + 6)) ≡ false
+  float : eqb (namedOf s (shape (kindAt K)) (p + 6)) 2 ≡ false
 
 body-tells : (s : List ℕ) (p K L k b l n next : ℕ) → bodyAt s p K L ≡ Whole k b l n next → Body s p K L k b l n next
 unfolding bodyAt
@@ -48,9 +48,9 @@ body-tells s p K L k b l n next e =
     let e₁ = past (eqb (shape (kindAt K)) 7) _ _ _ _ _ _ _ _ e in
     let e₂ = past (not (lengthOk (shape (kindAt K)) L)) _ _ _ _ _ _ _ _ (e₁ .1) in
     let e₃ = past (ltb 1024 (countOf s (shape (kindAt K)) (p + 6) L)) _ _ _ _ _ _ _ _ (e₂ .1) in
-    let e₄ = past (ltb 3 (modeOf s (shape (kindAt K)) (p + 6))) _ _ _ _ _ _ _ _ (e₃ .1) in
-    let e₅ = past (eqb (modeOf s (shape (kindAt K)) (p + 6)) 2) _ _ _ _ _ _ _ _ (e₄ .1) in
-    record { is = e₅ .1; kept = e₁ .0; fits = e₂ .0; few = e₃ .0; moded = e₄ .0; float = e₅ .0 }
+    let e₄ = past (ltb (lastOf (shape (kindAt K))) (namedOf s (shape (kindAt K)) (p + 6))) _ _ _ _ _ _ _ _ (e₃ .1) in
+    let e₅ = past (eqb (namedOf s (shape (kindAt K)) (p + 6)) 2) _ _ _ _ _ _ _ _ (e₄ .1) in
+    record { is = e₅ .1; kept = e₁ .0; fits = e₂ .0; few = e₃ .0; named = e₄ .0; float = e₅ .0 }
 
 pub tells : (s : List ℕ) (p k b l n next : ℕ) → recordAt s p ≡ Whole k b l n next → Tells s p k b l n next
 unfolding recordAt
@@ -67,14 +67,15 @@ tells s p k b l n next e =
     let kept : eqb (shape (kindAt K)) 7 ≡ false = t .kept in
     let fits : lengthOk (shape (kindAt K)) L ≡ true = not-false (lengthOk (shape (kindAt K)) L) (t .fits) in
     let few : C ≤ 1024 = ltb-false 1024 C (t .few) in
-    let moded : modeOf s (shape (kindAt K)) (p + 6) ≤ 3 = ltb-false 3 (modeOf s (shape (kindAt K)) (p + 6)) (t .moded) in
-    let float : eqb (modeOf s (shape (kindAt K)) (p + 6)) 2 ≡ false = t .float in
+    let named : namedOf s (shape (kindAt K)) (p + 6) ≤ lastOf (shape (kindAt K)) = ltb-false (lastOf (shape (kindAt K))) (namedOf s (shape (kindAt K)) (p + 6)) (t .named) in
+    let float : eqb (namedOf s (shape (kindAt K)) (p + 6)) 2 ≡ false = t .float in
     let qk : K ≡ k = cc in
     let qb : p + 6 ≡ b = cc in
     let ql : L ≡ l = cc in
     let qn : C ≡ n = cc in
     let qx : p + 6 + L ≡ next = cc in
-    let qm : modeOf s (shape (kindAt K)) (p + 6) ≡ modeOf s (shape (kindAt k)) b = cc in
+    let qo : lastOf (shape (kindAt K)) ≡ lastOf (shape (kindAt k)) = cc in
+    let qm : namedOf s (shape (kindAt K)) (p + 6) ≡ namedOf s (shape (kindAt k)) b = cc in
     record {
       numbered = qk;
       sized = omega (arith, ltb-false (u32At s p) 2 (e₂ .0), ql);
@@ -86,6 +87,6 @@ tells s p k b l n next e =
       kept = cc;
       fits = cc;
       few = omega (arith, few, qn);
-      moded = omega (arith, moded, qm);
+      named = omega (arith, named, qm, qo);
       float = cc;
     }

@@ -232,6 +232,7 @@ module _ (s input : List ℕ) (c : Held) (kc : length (c .calls) ≡ 256) (kr : 
           few-calls = omega (arith, l .few-calls, length-take-le (c .numbers .depth) (c .calls) (omega (arith, l .few-calls, kc)));
           few-refs = omega (arith, l .few-refs, length-take-le (c .numbers .saved) (c .refs) (omega (arith, l .few-refs, kr)));
           few-sent = omega (arith, l .few-sent, length-ring (c .channel) (c .numbers .first) (c .numbers .waiting));
+          in-ring = l .first;
           within = omega (arith, w .within, n);
           saved = each-of (λ x. ltb x (length (codeOf s .rows))) (λ x. x < length (patchIn s)) (λ x h. omega (arith, ltb-true x (length (codeOf s .rows)) h, n)) (take (c .numbers .depth) (c .calls)) (e3 .1);
           pointed = each-of (λ x. leb x 1_000_000_000) (λ x. x ≤ 1_000_000_000) (λ x h. leb-true x 1_000_000_000 h) (take (c .numbers .saved) (c .refs)) (e4 .1);

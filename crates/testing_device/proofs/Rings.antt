@@ -7,7 +7,7 @@ use native.Mathlib.Omega.{arith}
 use native.Mathlib.Nat.{add-zero}
 use native.Mathlib.Numerals.{add-one}
 use lib.Dec.{leb, ltb}
-use lib.ListN.{length, getD, set, length-append, length-set}
+use lib.ListN.{length, getD, drop, set, length-append, length-set}
 use lib.Seq.{getD-set-same, getD-set-other, set-getD}
 use borrow.Author.Tests.{leb-true, ltb-true}
 use Rattle.basics.proofs.Tests.{and-left, and-right}
@@ -36,6 +36,22 @@ ring-head l f (suc n) =
 
 pub ring-next : (l : List ℕ) (f n : ℕ) → ring l f (suc n) ≡ getD l (f % 256) 0 ∷ ring l ((f + 1) % 256) n
 ring-next l f n = ring-head l f n ∙ rw (ring-mod l (f + 1) n) refl
+
+-- the value i after the oldest
+pub ring-get : (l : List ℕ) (f n i : ℕ) → i < n → getD (ring l f n) i 0 ≡ getD l ((f + i) % 256) 0
+ring-get l f zero i h = absurd (omega arith)
+ring-get l f (suc n) zero h = rw (ring-head l f n, add-zero) refl
+ring-get l f (suc n) (suc i) h =
+    let q : f + 1 + i ≡ f + suc i = omega arith in
+    rw (ring-head l f n) (ring-get l (f + 1) n i (omega arith) ∙ rw q refl)
+
+-- what is left where the oldest k are taken
+pub ring-drop : (l : List ℕ) (f n k : ℕ) → k ≤ n → drop k (ring l f n) ≡ ring l ((f + k) % 256) (n - k)
+ring-drop l f n zero h = let m : n - 0 ≡ n = omega arith in rw (m, add-zero, ring-mod l f n) refl
+ring-drop l f zero (suc k) h = absurd (omega arith)
+ring-drop l f (suc n) (suc k) h =
+    let q : f + 1 + k ≡ f + suc k = omega arith in let m : suc n - suc k ≡ n - k = omega arith in
+    rw (ring-head l f n, m) (ring-drop l (f + 1) n k (omega arith) ∙ rw q refl)
 
 -- a store behind the values does not touch them
 ring-set : (l : List ℕ) (f k v n : ℕ) → n ≤ k → k < 256 → ring (set l ((f + k) % 256) v) f n ≡ ring l f n

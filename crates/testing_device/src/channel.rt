@@ -4,7 +4,7 @@ ghost use Rattle.testing_device.specs.Channel.{isRing, pokeLeft, peekOf,
 use crate::device::Peeked;
 use crate::device::Poked;
 
-fn is_ring(channel: &[u64], first: usize, waiting: usize) -> bool
+pub fn is_ring(channel: &[u64], first: usize, waiting: usize) -> bool
     ensures { λ r. ⌜ r ≡ isRing (now (channel .entry)) first waiting ⌝ }
 {
     if channel.len() < Poked::CHANNEL {

@@ -4,7 +4,7 @@ use borrow.Author.Needs.{needs}
 use Rattle.basics.specs.Pick.{pick}
 use Rattle.kind_table.specs.Kinds.{familyOf}
 use Rattle.tape_ops.specs.Tape.{tapeOf}
-use Rattle.machine_step.proofs.Arms.{key, steers-as, can-call, sets, sets-floats, stores, loads, moves, locates, derefs, refers, allocates, functions, calls, returns, whiles, ifs, elses, ends, gets, puts, peeks, pokes, offsets, swaps, lanes, passes}
+use Rattle.machine_step.proofs.Arms.{key, steers-as, can-call, sets, sets-floats, stores, loads, moves, locates, derefs, refers, allocates, functions, calls, returns, whiles, ifs, elses, ends, gets, puts, peeks, pokes, binds, offsets, swaps, lanes, passes}
 use Rattle.machine_step.proofs.step.op.Statement.{statement}
 use Rattle.machine_step.proofs.step.op.Tie as tie
 
@@ -63,6 +63,10 @@ op-spec =
     (search needs, search needs, u .pre .payload .floats (key (u .pre) (c .before .before .match .keys20))))
     (λ c κs. search needs)
     (λ c κs. search needs)
+    (λ c κs. search needs)
+    (λ c κs.
+    let u = c .before .before .before .before .before .before .before .before .before .before .before .before .before in
+    u .pre .payload .binds (key (u .pre) (c .match .keys32)))
     (λ c κs. search needs)
     (λ c κs. search needs)
     (λ c.
@@ -227,9 +231,12 @@ op-spec =
     let m = d .before .before .before .before .before in
     let u = m .before .before .before .before .before .before .before .before .before .before .before .before .before in
     pokes (u .pre) (m .match .keys31) _ _ _ _ (d .poke .ensures))
+    (λ c. c .before .channel2 .given)
     (λ c.
-    let u = c .before .before .before .before .before .before .before .before .before .before .before .before .before in
-    passes (u .pre) (c .match .keys32) refl _ refl)
+    let d = c .before .before in
+    let m = d .before .before .before .before .before in
+    let u = m .before .before .before .before .before .before .before .before .before .before .before .before .before in
+    binds (u .pre) (m .match .keys32) (d .before .before .before .before .binding-at .ensures) _ _ _ _ _ (d .ffi-call .ensures))
     (λ c. c .before .register10 .given)
     (λ c. refl)
     (λ c.

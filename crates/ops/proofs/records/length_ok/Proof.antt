@@ -15,6 +15,7 @@ length-ok-spec =
     (λ c. simp (c .match .keys4))
     (λ c. simp (c .match .keys5))
     (λ c. simp (c .match .keys6))
+    (λ c. simp (c .match .keys7))
     (λ c.
     let r = c .match .rest in
     simp (
@@ -24,4 +25,5 @@ length-ok-spec =
       ne-eqb _ _ (r .0 .0 .0 .1),
       ne-eqb _ _ (r .0 .0 .0 .0 .1),
       ne-eqb _ _ (r .0 .0 .0 .0 .0 .1),
+      ne-eqb _ _ (r .0 .0 .0 .0 .0 .0 .1),
     )))

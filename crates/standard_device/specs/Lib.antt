@@ -1,0 +1,3 @@
+pub mod Root
+pub mod Post
+pub mod Bindings
