@@ -53,11 +53,11 @@ def name(sort, number, verdict, kind):
         return "device before lane"
     if number == 22 and verdict == "went" and kind in (AND, OR):
         return "cell skipped"
-    if number == 33 and kind == FFI:
-        return "too few values" if verdict == "panic" else None
     if number == 32 and verdict in ("went", "err", "panic") and kind in (CALL, DEREF):
         # a step further the Rust may find a function that is not there, or a negative cell
         return "stack limit"
+    if number == 33 and kind == FFI:
+        return "too few values" if verdict == "panic" else None
     return AT_THE_OP.get((number, verdict))
 
 
