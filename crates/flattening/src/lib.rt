@@ -1,4 +1,6 @@
 // Flattening: each function's own ops, then main.
+#![tactic(auto)]
+
 pub mod body; // an entry of the caller's list
 mod numbering; // the body that each op is in
 mod bodies; // the records of the bodies, one body after another

@@ -1,4 +1,6 @@
 // The table of the 62 kinds, and the names of its rows and of what stands in its columns.
+#![tactic(auto)]
+
 pub mod row; // the rows
 pub mod bracket; // those of the brackets, as places
 pub mod shape; // the payloads

@@ -1,4 +1,6 @@
 // Lane arithmetic on 64-bit patterns: the lane arms of the Rust's `step`.
+#![tactic(auto)]
+
 mod int; // int.rt: a lane as an integer
 mod float; // float.rt: a lane as a float
 pub mod lane; // lane.rt: the lane ops, and the rule of each

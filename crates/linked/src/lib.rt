@@ -1,6 +1,8 @@
 // The machine's calls for programs in C or Rust to link. A slice is a pointer and a length. Each call gives back its number, and writes its numbers to
 // the start of `answer`, as many of them as it has room for: number and place first, then what the call gives besides. The caller owes that so many
 // elements stand at each pointer as its length says, and that no slice that is written overlaps another.
+#![tactic(auto)]
+
 ghost use Rattle.std.specs.Prelude.{◌≡◌};
 ghost use Rattle.ops.specs.Patch.{patch_of};
 ghost use Rattle.patch_reader.specs.Answer.{read_of};

@@ -1,2 +1,4 @@
 // One step of the machine over what it is lent: the op at the position is found, its lanes are tested, and its family works it.
+#![tactic(auto)]
+
 pub mod step; // the op at the position

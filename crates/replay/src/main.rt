@@ -1,5 +1,7 @@
 // Replays a list of cases: reads it on standard input, runs our code on each case, and prints the first ten that do not have the expected answer,
 // how many cases there are and how many agree. docs/REPLAY.md says what a list is.
+#![tactic(auto)]
+
 mod list; // the bytes of a case
 mod tell; // what is said of a difference
 mod found; // what is found of a case

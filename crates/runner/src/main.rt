@@ -1,6 +1,8 @@
 // The runner: a patch on standard input, checked and run from fresh with no input values, 4,096 cells, room for 4,096 outputs and a budget of
 // 100,000 steps; with the argument --by-mark in the other call mode. It prints the check's number and place, the run's number, steps and place, the outputs,
 // and place and count of the ten busiest ops; of a bad file `load`, its number and place alone.
+#![tactic(auto)]
+
 use answers::check::Verdict;
 use answers::run::{number_of, place_of};
 use busy::busiest::{Busy, busiest};

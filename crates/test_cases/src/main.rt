@@ -4,6 +4,8 @@
 // A case is a head of 18 bytes, then its name, its patch and its input values. The head: what is done (0 the check and a run, 1 joining, 2
 // flattening, 3 as 0 and the counts) and 16 times the call mode, the name's length, and by two bytes each the patch's length, the number of input values, of cells, of outputs or of
 // bytes and bodies that there is room for, and of lanes that the register has room for; the budget by four; and the number of counts by two.
+#![tactic(auto)]
+
 use answers::flatten::Flattened;
 use answers::join::Joined;
 use answers::run::{number_of, place_of};

@@ -3,6 +3,8 @@
 //
 // A file of the list is four lengths of two bytes, start, back, more and tail; then start bytes and tail bytes. It stands for
 // the start bytes, then more bytes, each the same as the one back bytes before it, then the tail bytes.
+#![tactic(auto)]
+
 ghost use Rattle.std.specs.Prelude.{◌≡◌, ◌+◌, ◌<◌, ◌≤◌, length};
 
 // Two bytes as a length.

@@ -1,5 +1,7 @@
 // Runs every lane op over the patterns of vectors.rt, and prints what each gives, in hexadecimal. The stored output was
 // worked out apart from this code, by crates/test_lanes/make.py.
+#![tactic(auto)]
+
 mod vectors; // vectors.rt: the kinds and the patterns
 
 use lanes::lane::{CellOp, LaneOp, cell_rule, lane_rule};

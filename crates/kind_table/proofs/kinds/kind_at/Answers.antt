@@ -1,5 +1,4 @@
 -- `kind_table::kinds::kind_at` meets its contract: each byte of the table, taken apart, is its row. Assumes nothing.
-use borrow.Author.Rules.{rules}
 use Rattle.kind_table.specs.Columns.{empty, no_lane, as_before}
 use Rattle.kind_table.specs.Kinds.{kinds, kind, shape, need, after, kind_at}
 use Rattle.kind_table.specs.declared.kinds.Kind.{Kind}
@@ -7,8 +6,7 @@ use Prim.Native.Nat.{ℕ, ◌+◌, ◌*◌, ◌/◌, ◌%◌}
 use mathlib.Core.List.{map}
 use mathlib.Core.Path.{sym}
 use lib.ListN.{get_or-eq_default, get_or-map}
-use Rattle.kind_table.proofs.kinds.kind_at.Statement.{statement}
-use Rattle.kind_table.proofs.kinds.kind_at.Tie as tie
+use Rattle.kind_table.proofs.kinds.kind_at.Goals as goal
 
 -- a row in one byte, and a byte's row
 abbrev packed : Kind → ℕ
@@ -17,11 +15,10 @@ packed k = shape k * 16 + need k * 4 + after k
 abbrev apart : ℕ → Kind
 apart c = kind (c / 16) (c / 4 % 4) (c % 4)
 
-pub kind-at-spec : {M : Type 1} → statement M
+pub returns-then-k-ge-COUNT : goal.returns-then-k-ge-COUNT
 unfolding kind_at
-kind-at-spec =
-    tie.close
-    (tie.spec
-    (λ c. sym (get_or-eq_default kinds (kind empty no_lane as_before) c.if1.true))
-    (λ c. search rules)
-    (λ c. sym (get_or-map apart (map packed kinds) c.before.args.k 0)))
+returns-then-k-ge-COUNT c = sym (get_or-eq_default kinds (kind empty no_lane as_before) c.if-k-ge-COUNT.true)
+
+pub returns : goal.returns
+unfolding kind_at
+returns c = sym (get_or-map apart (map packed kinds) c.args.k 0)

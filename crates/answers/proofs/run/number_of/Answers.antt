@@ -1,0 +1,28 @@
+-- `answers::run::number_of` meets its contract. Assumes nothing.
+use Rattle.answers.specs.Run.{number_of}
+use borrow.Author.Rules.{rules}
+use Rattle.answers.proofs.run.number_of.Goals as goal
+
+pub returns-in-BadFile : goal.returns-in-BadFile
+unfolding number_of
+returns-in-BadFile c = search rules
+
+pub returns-in-NotAState : goal.returns-in-NotAState
+unfolding number_of
+returns-in-NotAState c = search rules
+
+pub returns-in-Went : goal.returns-in-Went
+unfolding number_of
+returns-in-Went c = search rules
+
+pub returns-in-Finished : goal.returns-in-Finished
+unfolding number_of
+returns-in-Finished c = search rules
+
+pub returns-in-Spent : goal.returns-in-Spent
+unfolding number_of
+returns-in-Spent c = search rules
+
+pub returns-in-Refused : goal.returns-in-Refused
+unfolding number_of
+returns-in-Refused c = search rules

@@ -1,0 +1,18 @@
+-- `byte_fields::write::copy_bytes` meets its contract. Assumes nothing.
+use Prim.Native.Nat.{◌+◌, ◌≤◌, ◌<◌, ◌-◌}
+use mathlib.Core.Path.{◌≡◌, ◌∙◌, refl}
+use native.Mathlib.Omega.{arith}
+use lib.ListN.{length, length-set}
+use Rattle.byte_fields.specs.Bytes.{text_at}
+use Rattle.byte_fields.specs.Storage.{placed}
+use Rattle.byte_fields.proofs.Storage.{placed_none}
+use Rattle.byte_fields.proofs.TextAt.{text_more}
+use borrow.Author.Rules.{rules}
+use Rattle.byte_fields.proofs.write.copy_bytes.Given as goal
+
+abbrev pub invariant-loop-i : goal.invariant-loop-i
+invariant-loop-i l =
+    (l.i ≤ l.n) × (l.out ≡ placed l.initial.out l.at (text_at l.bytes l.from l.i)) × (length l.out ≡ length l.initial.out)
+
+abbrev pub decreases-loop-i : goal.decreases-loop-i
+decreases-loop-i l = l.n - l.i
