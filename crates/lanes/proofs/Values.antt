@@ -1,7 +1,7 @@
 -- A float's value and sign, with its fitting the format, fix its data, and so its pattern. Assumes nothing.
 use Rattle.std.proofs.Common.{◌≡◌, ℕ, zero, suc, ◌+◌, ◌*◌, ◌%◌, ◌^◌, ◌<◌, Bool, not, ◌&&◌, T, eqb, ltb, leb, ℤ, pos, negsuc, sym, refl, ap, ◌∙◌, subst, lt_irrefl, zero-lt-suc, mul_assoc, mul-pos, one-mul, zero-mul, mul-one, mul_right_comm, mul_left_comm, arith, eqb→eq, pow_pos, pow-add}
 use native.Mathlib.Nat.{eq_of_mul-eq-mul_right, pow-succ'}
-use lib.Ieee.{Float, fin, Format, binary64, prec, emax, low, up, down, fits, is_nan, to_bits}
+use lib.Ieee.{Float, nan, inf, fin, Format, binary64, prec, emax, low, up, down, fits, is_nan, to_bits}
 use lib.Ieee.Fits.{and_l, down_pos, up_pos}
 use lib.Ieee.Exact.{HasValue}
 use lib.Ieee.Bits.{of_bits-fits, to_bits-of_bits}
@@ -88,10 +88,18 @@ value_unique f (fin t (suc m) e) (fin u (suc n) d) s a c h p q v w =
     let r = odd_pow (suc m) (suc n) x.p x.q (is_odd f t m e p) (is_odd f u n d q)
     (ap (λ (k : ℕ). suc m * k) (sym x.left) ∙ across (suc m) (suc n) e d a c h v.1 w.1 ∙ ap (λ (k : ℕ). suc n * k) x.right) in
     λ i. fin ((v.0 ∙ sym w.0) i) (r.0 i) (x.same r.1 i)
+value_unique f nan y s a c h p q v w = elim v [ ]
+value_unique f (inf b) y s a c h p q v w = elim v [ ]
+value_unique f (fin t zero e) nan s a c h p q v w = elim w [ ]
+value_unique f (fin t zero e) (inf b) s a c h p q v w = elim w [ ]
+value_unique f (fin t (suc m) e) nan s a c h p q v w = elim w [ ]
+value_unique f (fin t (suc m) e) (inf b) s a c h p q v w = elim w [ ]
 
 finite : (x : Float) (s : Bool) (a c : ℕ) → HasValue x s a c → T (not (is_nan x))
 unfolding is_nan
 finite (fin t m e) s a c u = tt
+finite nan s a c u = elim u [ ]
+finite (inf b) s a c u = elim u [ ]
 
 -- the pattern of a finite float is known by its value and sign
 pub pattern_fixed : (p q : ℕ) (s : Bool) (a c : ℕ) → p < 2 ^ 64 → q < 2 ^ 64 → 0 < c → HasValue (loaded_of p) s a c → HasValue (loaded_of q) s a c → p ≡ q
