@@ -4,7 +4,7 @@ ghost use Rattle.answers.specs.Check.{number_of, place_of};
 
 // A patch that passed, and how many ops it has; the refusal of a bad file, its number and its byte; or the op that breaks a rule: an End or
 // an Else with no open bracket, too few known lanes, a bracket that is never closed.
-#[derive(Drop)]
+#[derive(Clone, Copy)]
 pub enum Verdict {
     Passed { ops: usize },
     BadFile { number: usize, place: usize },

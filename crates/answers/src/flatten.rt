@@ -4,7 +4,7 @@ ghost use Rattle.answers.specs.Flatten.{number_of, place_of, bytes_of, bodies_of
 
 // The refusal of a bad file, its number and its byte; an End with no open bracket, its op; lent room too short; or what was written: ops,
 // bytes, and entries of function bodies.
-#[derive(Drop)]
+#[derive(Clone, Copy)]
 pub enum Flattened {
     BadFile {
         number: usize,

@@ -3,7 +3,7 @@ ghost use Rattle.std.specs.Prelude.{◌≡◌};
 ghost use Rattle.answers.specs.Join.{number_of, place_of, length_of};
 
 // The file's own refusal and its place; no room; or the result's op count and byte length.
-#[derive(Drop)]
+#[derive(Clone, Copy)]
 pub enum Joined {
     BadFile(usize, usize),
     NoRoom,

@@ -3,7 +3,7 @@ ghost use Rattle.std.specs.Prelude.{◌≡◌};
 ghost use Rattle.answers.specs.Run.{number_of, place_of, lane_of};
 
 // What a call answers; specs/Run has 01's number and place for each, and the lane of 02's ask 3. A refused step has its number and its lane.
-#[derive(Drop)]
+#[derive(Clone, Copy)]
 pub enum Answer {
     BadFile(usize, usize),
     NotAState,

@@ -6,7 +6,7 @@ ghost use Rattle.busy.specs.Busiest.{busier, first_of, other_of, insert, with_op
 pub const BUSIEST: usize = 10;
 
 // An op: its place, and its count.
-#[derive(Drop)]
+#[derive(Clone, Copy)]
 pub struct Op {
     pub place: usize,
     pub count: u64,

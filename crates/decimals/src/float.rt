@@ -7,7 +7,7 @@ ghost use Rattle.decimals.specs.Post.{Digits, Summed, Fraction};
 use crate::chars::past_digits;
 
 // The place of the first digit after the point, and the place after the last.
-#[derive(Drop)]
+#[derive(Clone, Copy)]
 pub struct Span {
     pub start: usize,
     pub end: usize,

@@ -8,7 +8,7 @@ use answers::flatten::{Flattened, bodies_of, bytes_of, number_of, place_of};
 
 // The number given back with its place; the bytes and the entries that were written.
 #[repr(C)]
-#[derive(Drop)]
+#[derive(Clone, Copy)]
 pub struct Report {
     pub number: usize,
     pub place: usize,

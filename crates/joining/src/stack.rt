@@ -11,7 +11,7 @@ use patch_reader::reader::Read;
 
 // What the last op and the new one make of each other: the new one is pushed, or left out; the last one is taken off, and the new one
 // is pushed again, a set of this value is, or the last one is after the new one; or a move by this value stands for both.
-#[derive(Drop)]
+#[derive(Clone, Copy)]
 pub enum Met {
     Push,
     Skip,

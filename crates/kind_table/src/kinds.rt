@@ -17,7 +17,7 @@ const BEYOND: usize = STANDARD + COUNT - CORE;
 const ABOVE: usize = STANDARD - CORE;
 
 // A kind's payload, the lanes that it needs, and the lanes known after it.
-#[derive(Drop)]
+#[derive(Clone, Copy)]
 pub struct Kind(pub u8, pub u8, pub u8);
 
 // A row is one byte, since a constant array is laid down anew at each reading: the payload times 16, the lanes needed times 4, the lanes known after.

@@ -12,7 +12,7 @@ use crate::int::{
 };
 
 // The ops that work lane i with cell i.
-#[derive(Drop)]
+#[derive(Clone, Copy)]
 pub enum CellOp {
     Index,
     BitwiseNand,
@@ -37,7 +37,7 @@ pub enum CellOp {
 }
 
 // The ops that work a lane alone.
-#[derive(Drop)]
+#[derive(Clone, Copy)]
 pub enum LaneOp {
     BitwiseNot,
     Not,

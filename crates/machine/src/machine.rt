@@ -14,7 +14,7 @@ pub struct Machine {
 }
 
 // The limits, each the last accepted.
-#[derive(Drop)]
+#[derive(Clone, Copy)]
 pub struct Capacities {
     pub file: usize,
     pub ops: usize,

@@ -15,7 +15,7 @@ pub const HALTED: u32 = 2;
 
 pub const NUMBERS: u32 = 64;
 
-#[derive(Drop)]
+#[derive(Clone, Copy)]
 pub struct Numbers {
     pub depth: usize,
     pub saved: usize,

@@ -9,7 +9,7 @@ use kind_table::row;
 use machine_numbers::numbers::{DONE, HALTED, NUMBERS, Numbers};
 
 // What the steps leave beside the stacks and the slices.
-#[derive(Drop)]
+#[derive(Clone, Copy)]
 pub struct Ended {
     pub answer: Answer,
     pub steps: u32,

@@ -5,7 +5,7 @@ ghost use Rattle.ops.specs.Decode.{mode_in, binding_in};
 
 use byte_fields::read::u16_at;
 
-#[derive(Drop)]
+#[derive(Clone, Copy)]
 pub enum Mode {
     Char,
     Int,
@@ -28,7 +28,7 @@ pub fn mode_at(bytes: &[u8], at: usize) -> Mode
 }
 
 // The functions that FFI Call can name.
-#[derive(Drop)]
+#[derive(Clone, Copy)]
 pub enum Binding {
     SquareRoot,
     Add,

@@ -17,7 +17,7 @@ const BINDINGS: usize = 1;
 
 // A whole record: the row of its kind, the first byte and the length of its payload, the lanes, values or bytes
 // that the payload counts, and the byte after it. Or the refusal, and the record's first byte.
-#[derive(Drop)]
+#[derive(Clone, Copy)]
 pub enum Record {
     Whole {
         row: usize,

@@ -8,7 +8,7 @@ use crate::records::Record;
 use byte_fields::write::{copy_bytes, put_u16, put_u32};
 
 // The byte after the record, or no room for it.
-#[derive(Drop)]
+#[derive(Clone, Copy)]
 pub enum Written {
     Next(usize),
     NoRoom,

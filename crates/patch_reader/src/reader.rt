@@ -12,7 +12,7 @@ use ops::records::Record;
 use ops::refusals::{Refusal, number_of};
 
 // What reading a file answers: 0 and the op count, or the refusal's number and place; and the ops read.
-#[derive(Drop)]
+#[derive(Clone, Copy)]
 pub struct Read {
     pub number: usize,
     pub place: usize,

@@ -1,7 +1,7 @@
 // What is found of a case of a list.
 ghost use Rattle.std.specs.Prelude.{◌≤◌};
 
-#[derive(Drop)]
+#[derive(Clone, Copy)]
 pub enum Found {
     End,
     Damaged,

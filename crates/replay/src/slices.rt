@@ -10,7 +10,7 @@ use crate::tell::Tell;
 use streams::part::{of_lanes, of_places};
 
 // Where each of the six begins, and the place after them.
-#[derive(Drop)]
+#[derive(Clone, Copy)]
 pub struct Places {
     pub tape: usize,
     pub register: usize,

@@ -53,7 +53,7 @@ fn numbers_at(case: &[u8], at: usize) -> Numbers {
 }
 
 // The two stacks of a machine.
-#[derive(Drop)]
+#[derive(Clone, Copy)]
 enum Stack {
     Calls,
     Pointers,

@@ -2,7 +2,7 @@
 use streams::print::{end_line, lane, number};
 
 // A case's number, and whether anything is to be said of it.
-#[derive(Drop)]
+#[derive(Clone, Copy)]
 pub struct Tell {
     pub case: u32,
     pub loud: bool,

@@ -109,7 +109,7 @@ fn is_by_mark() -> bool {
 }
 
 // What the arguments ask for: a call mode, or nothing that there is.
-#[derive(Drop)]
+#[derive(Clone, Copy)]
 enum Asked {
     Mode(u32),
     Unknown,

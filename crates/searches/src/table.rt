@@ -4,7 +4,7 @@ ghost use Rattle.searches.specs.Found.{above, sought_in, entered_in, counted_in}
 ghost use Rattle.machine_model.specs.Formed.{Rising};
 
 // What a search for a place says: it is there, or it is missing, with the number of the entry before which it belongs.
-#[derive(Drop)]
+#[derive(Clone, Copy)]
 enum Sought {
     There,
     Missing(usize),

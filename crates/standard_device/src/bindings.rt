@@ -11,7 +11,7 @@ use testing_device::channel::is_ring;
 use testing_device::device::Poked;
 
 // What FFI Call gives: the ring's first place and count after it. NotARing is the public form of 37.
-#[derive(Drop)]
+#[derive(Clone, Copy)]
 pub enum Called {
     Sent(usize, usize),
     TooFew,

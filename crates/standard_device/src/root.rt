@@ -12,14 +12,14 @@ const INFINITY: u64 = 0x7FF0_0000_0000_0000;
 const NAN: u64 = 0x7FF8_0000_0000_0000;
 
 // A root cut to a whole number, and what its square leaves.
-#[derive(Drop)]
+#[derive(Clone, Copy)]
 struct Found {
     q: u64,
     rest: u64,
 }
 
 // A number doubled until it has 53 digits, and how often.
-#[derive(Drop)]
+#[derive(Clone, Copy)]
 struct Long {
     m: u64,
     times: u64,

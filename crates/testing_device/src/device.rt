@@ -1,19 +1,19 @@
 // What Get gives: the value, and the input place after what it took.
-#[derive(Drop)]
+#[derive(Clone, Copy)]
 pub enum Got {
     Value(u64, usize),
     Empty,
 }
 
 // What Put gives: the output count after what it wrote.
-#[derive(Drop)]
+#[derive(Clone, Copy)]
 pub enum Put {
     Written(usize),
     NoRoom,
 }
 
 // What Peek gives: the value, and the ring's first place and count after it. NotARing is the public form of 37.
-#[derive(Drop)]
+#[derive(Clone, Copy)]
 pub enum Peeked {
     Value(u64, usize, usize),
     Empty,
@@ -21,7 +21,7 @@ pub enum Peeked {
 }
 
 // What Poke gives: the ring's count after the value.
-#[derive(Drop)]
+#[derive(Clone, Copy)]
 pub enum Poked {
     Sent(usize),
     Full,

@@ -8,6 +8,6 @@ pub returns : goal.returns
 returns c =
     let a = c.args.a in
     elim c.if-a-lt-HALF.branch [
-      then-a-lt-HALF w ↦ ap (λ (n : ℕ). n / 2 ^ 63) w.rest-is ∙ gez_low a w.if-a-lt-HALF.true
+      | then-a-lt-HALF w ↦ ap (λ (n : ℕ). n / 2 ^ 63) w.rest-is ∙ gez_low a w.if-a-lt-HALF.true
       | else-a-lt-HALF w ↦ ap (λ (n : ℕ). n / 2 ^ 63) w.rest-is ∙ gez_high a (search rules) w.if-a-lt-HALF.false
     ]

@@ -1,0 +1,16 @@
+-- `lane_loops::loops::copy_lanes` meets its contract. The invariant: so many lanes are done. The measure is what is left of n. Assumes nothing.
+use Prim.Native.Nat.{ℕ, ◌≤◌, ◌-◌}
+use mathlib.Core.Path.{◌≡◌, refl, ◌∙◌, ap}
+use native.Mathlib.Omega.{arith}
+use lib.ListN.{length}
+use Rattle.lane_loops.specs.Loops.{zip_to, beside}
+use Rattle.lane_loops.proofs.LaneLoops.{zip_again}
+use borrow.Author.Rules.{rules}
+use Rattle.lane_loops.proofs.loops.copy_lanes.Given as goal
+
+abbrev pub invariant-loop-at : goal.invariant-loop-at
+invariant-loop-at l =
+    (l.at ≤ l.n) × (length l.to ≡ length l.initial.to) × (l.to ≡ zip_to beside l.at l.initial.to l.from)
+
+abbrev pub decreases-loop-at : goal.decreases-loop-at
+decreases-loop-at l = l.n - l.at
