@@ -5,14 +5,7 @@ use Rattle.testing_device.specs.declared.device.Got.{Got}
 use Rattle.testing_device.specs.declared.device.Got.TheVariants.{Value}
 use Rattle.testing_device.specs.Device.{is_digit, int_from}
 use Rattle.testing_device.proofs.Inputs.{leading_end, leading_stop, digits_from, digits_none, digits_more, int_is, digit_least}
-use Rattle.testing_device.proofs.input.get_int.Statement.{statement}
-use Rattle.testing_device.proofs.input.get_int.Tie as tie
-
-abbrev invariant-loop : tie.invariant-loop
-invariant-loop input at i₀ a₀ i a = digits_from input i a ≡ int_from (drop at input) at
-
-abbrev decreases-loop : tie.decreases-loop
-decreases-loop input at i₀ a₀ i a = length input - i
+use Rattle.testing_device.proofs.input.get_int.Goals as goal
 
 -- t is the answer of `is_digit`
 least : (t : Bool) (v : ℕ) → t ≡ is_digit v → not t ≡ false → 48 ≤ v % 256
@@ -29,8 +22,17 @@ module _ (l : List ℕ) (i a : ℕ) (x : Got) (inv : digits_from l i a ≡ x) wh
     further : not t ≡ false → (r : ℕ) → r ≡ (a * 10 + (get_or l i 0 % 256 - 48)) % 2 ^ 64 → digits_from l (i + 1) r ≡ x
     further n r q = rw q (sym (digits_more l i a h (sym e ∙ not-false t n)) ∙ inv)
 
-pub get-int-spec : {M : Type 1} → statement M
-get-int-spec =
-    tie.close
-    (tie.spec invariant-loop decreases-loop (search) (λ c. let a = c.before.before.args in rw c.past-spaces.ensures (int_is a.input.now a.at))
-    (λ c. search rules) (λ c. search rules) (search) (λ c. search stopped) (λ c κs. search least) (λ c. search rules) (λ c. search rules) (λ c. search further) (λ c. search ended))
+pub loop-i-init : goal.loop-i-init
+loop-i-init c = let a = c.args in rw c.past_spaces-i.ensures (int_is a.input.now a.at)
+
+pub returns-then-not-is_digit : goal.returns-then-not-is_digit
+returns-then-not-is_digit c = search stopped
+
+pub with_digit-a-requires : goal.with_digit-a-requires
+with_digit-a-requires c = search least
+
+pub loop-i-preserved : goal.loop-i-preserved
+loop-i-preserved c = search further
+
+pub returns : goal.returns
+returns c = search ended

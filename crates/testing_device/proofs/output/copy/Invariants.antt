@@ -1,0 +1,12 @@
+-- `testing_device::output::copy` meets its contract. Assumes nothing.
+use Rattle.std.proofs.Common.{◌≡◌, ◌-◌, ◌≤◌, length, refl, ◌∙◌, add-one, arith, length-set, rules}
+use lib.Seq.{paste, paste-zero, paste-suc}
+use Rattle.testing_device.proofs.Outputs.{placed_all}
+use Rattle.testing_device.proofs.output.copy.Given as goal
+
+abbrev pub invariant-loop-i : goal.invariant-loop-i
+invariant-loop-i l =
+    (l.i ≤ length l.values) × (l.output ≡ paste l.initial.output l.count l.values l.i) × (length l.output ≡ length l.initial.output)
+
+abbrev pub decreases-loop-i : goal.decreases-loop-i
+decreases-loop-i l = length l.values - l.i

@@ -1,0 +1,12 @@
+-- `testing_device::output::digits_of` meets its contract. Assumes nothing.
+use Rattle.std.proofs.Common.{◌≡◌, ◌-◌, ◌^◌, ◌<◌, ◌≤◌, ◌++◌, length, drop, refl, ◌∙◌, append-nil, arith, length-set, rules}
+use Rattle.testing_device.specs.Device.{decimal}
+use Rattle.testing_device.proofs.Outputs.{digit_more, digit_last, digits_fit}
+use Rattle.testing_device.proofs.output.digits_of.Given as goal
+
+abbrev pub invariant-loop-rest : goal.invariant-loop-rest
+invariant-loop-rest l =
+    (1 < l.i) × (l.i ≤ 20) × (l.rest < 10 ^ (l.i - 1)) × (decimal l.i l.rest ++ drop l.i l.chars ≡ decimal 20 l.n) × (length l.chars ≡ 20)
+
+abbrev pub decreases-loop-rest : goal.decreases-loop-rest
+decreases-loop-rest l = l.rest
