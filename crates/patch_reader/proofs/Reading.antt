@@ -78,11 +78,13 @@ pub record Reading (s k₀ c₀ e₀ p₀ k c e p : List ℕ) (at n m : ℕ) : T
 
 abbrev pub Said : (s k₀ c₀ e₀ p₀ k c e p : List ℕ) → Read → Type 0
 Said s k₀ c₀ e₀ p₀ k c e p r =
-    (r ≡ read_of (patch_of s))
-    × ((k ≡ fill (map row_in (patch_of s).items) k₀)
-    × ((c ≡ fill (map count_in (patch_of s).items) c₀)
-    × ((e ≡ fill (map need_in (patch_of s).items) e₀)
-    × (p ≡ fill (map payload_in (patch_of s).items) p₀))))
+    record {
+      value : r ≡ read_of (patch_of s);
+      rows_after : k ≡ fill (map row_in (patch_of s).items) k₀;
+      counts_after : c ≡ fill (map count_in (patch_of s).items) c₀;
+      needs_after : e ≡ fill (map need_in (patch_of s).items) e₀;
+      payloads_after : p ≡ fill (map payload_in (patch_of s).items) p₀
+    }
 
 -- a run of an op needs no more lanes than it may count
 pub need_few : (k n r : ℕ) → r ≡ run_need k n → n ≤ 1024 → r ≤ 1024
@@ -108,7 +110,8 @@ numbered FileTooLong = refl
 
 pub too_long : (s k c e p : List ℕ) (r : Read) → r ≡ refused_at FileTooLong 0 0 → 65536 < length s → Said s k c e p k c e p r
 unfolding patch_of read_of refused_at fill
-too_long s k c e p r q h = simp (lt-ltb _ _ h, numbered FileTooLong) (q, (refl, (refl, (refl, refl))))
+too_long s k c e p r q h = simp (lt-ltb _ _ h, numbered FileTooLong)
+    (record { value = q; rows_after = refl; counts_after = refl; needs_after = refl; payloads_after = refl })
 
 pub start : (s k c e p : List ℕ) → length s ≤ 65536 → Reading s k c e p k c e p 0 0 0
 unfolding patch_of fill
@@ -124,7 +127,14 @@ module _ {s k₀ c₀ e₀ p₀ k c e p : List ℕ} {at n m : ℕ} (i : Reading 
   unfolding read_of
   finish a b h =
       let q : patch_of s ≡ prepend i.acc (ending a b) = i.whole ∙ ap (prepend i.acc) h in
-      rw q (simp (append-nil) (ap (λ (j : ℕ). record { number = a; place = cond (eqb a 0) j b; ops = j }) (sym i.size), (i.ks, (i.cs, (i.es, i.ps)))))
+      rw q (simp (append-nil)
+      (record {
+        value = ap (λ (j : ℕ). record { number = a; place = cond (eqb a 0) j b; ops = j }) (sym i.size);
+        rows_after = i.ks;
+        counts_after = i.cs;
+        needs_after = i.es;
+        payloads_after = i.ps;
+      }))
 
   pub finish_good : walk s (4096 - n) m at ≡ ending 0 0 → Said s k₀ c₀ e₀ p₀ k c e p (record { number = 0; place = n; ops = n })
   finish_good h = finish 0 0 h

@@ -8,10 +8,9 @@ use Rattle.ops.specs.declared.records.Record.TheVariants.{Whole}
 use mathlib.Core.Path.{◌≡◌, sym, ap}
 use native.Mathlib.Omega.{arith}
 use Rattle.patch_reader.proofs.reader.load.Goals as goal
-use Rattle.patch_reader.proofs.reader.load.Goals.{After-mark_of, Else-more-gt-MARKS, Else-n-ge-OPS, In-Whole, In-Whole-2}
+use Rattle.patch_reader.proofs.reader.load.Goals.{In-Whole}
 
-whole : (c : In-Whole-2) → let f = c.r-in-Whole-1.given.0 in
-    Whole f.0 f.1.0 f.1.1.0 f.1.1.1.0 f.1.1.1.1.0 ≡ record_at c.args.bytes.now c.loop-at.at
+whole : (c : In-Whole) → let f = c.in-Whole in Whole f.row f.body f.len f.count f.next ≡ record_at c.args.bytes.now c.loop-at.at
 whole c = found c.loop-at.invariant _ _ c.read_record-r.ensures c.in-Whole.is
 
 pub returns-then-bytes-gt-FILE : goal.returns-then-bytes-gt-FILE
@@ -27,7 +26,7 @@ returns-in-Bad c =
     finish_bad l.invariant _ _ _ c.refused_at-in-Bad.ensures (walk_bad _ l.marks _ (4096 - l.n) _ _ c.loop-at-test.true f)
 
 pub returns-then-n-ge-OPS : goal.returns-then-n-ge-OPS
-returns-then-n-ge-OPS c = finish_bad c.loop-at.invariant _ _ _ c.refused_at-then-n-ge-OPS.ensures (walk_full _ _ _ _ _ _ _ _ _ c.loop-at-test.true (whole (goal.at.returns-then-n-ge-OPS c).In-Whole-2) c.if-n-ge-OPS.true)
+returns-then-n-ge-OPS c = finish_bad c.loop-at.invariant _ _ _ c.refused_at-then-n-ge-OPS.ensures (walk_full _ _ _ _ _ _ _ _ _ c.loop-at-test.true (whole (goal.at.returns-then-n-ge-OPS c).In-Whole) c.if-n-ge-OPS.true)
 
 pub overflow_add-more : goal.overflow_add-more
 overflow_add-more c = omega arith
@@ -35,10 +34,10 @@ overflow_add-more c = omega arith
 pub returns-then-more-gt-MARKS : goal.returns-then-more-gt-MARKS
 returns-then-more-gt-MARKS c =
     let w = rw c.mark_of.ensures.0 at c.if-more-gt-MARKS.true in
-    finish_bad c.loop-at.invariant _ _ _ c.refused_at-then-more-gt-MARKS.ensures (walk_marks _ _ _ _ _ _ _ _ _ c.loop-at-test.true (whole (goal.at.returns-then-more-gt-MARKS c).In-Whole-2) c.if-n-ge-OPS.false w)
+    finish_bad c.loop-at.invariant _ _ _ c.refused_at-then-more-gt-MARKS.ensures (walk_marks _ _ _ _ _ _ _ _ _ c.loop-at-test.true (whole (goal.at.returns-then-more-gt-MARKS c).In-Whole) c.if-n-ge-OPS.false w)
 
 pub overflow_cast-rows : goal.overflow_cast-rows
-overflow_cast-rows c = omega (arith, tells _ _ _ _ _ _ _ (sym (whole (goal.at.overflow_cast-rows c).In-Whole-2)))
+overflow_cast-rows c = omega (arith, tells _ _ _ _ _ _ _ (sym (whole (goal.at.overflow_cast-rows c).In-Whole)))
 
 pub bounds-rows-n : goal.bounds-rows-n
 bounds-rows-n c = omega arith
@@ -53,7 +52,7 @@ pub bounds-counts-n : goal.bounds-counts-n
 bounds-counts-n c = omega arith
 
 pub overflow_cast-needs : goal.overflow_cast-needs
-overflow_cast-needs c = omega (arith, need_few _ _ _ c.run_need-need.ensures (tells _ _ _ _ _ _ _ (sym (whole (goal.at.overflow_cast-needs c).Else-n-ge-OPS))).few)
+overflow_cast-needs c = omega (arith, need_few _ _ _ c.run_need-need.ensures (tells _ _ _ _ _ _ _ (sym (whole (goal.at.overflow_cast-needs c).In-Whole))).few)
 
 pub offset_bounds-needs-n : goal.offset_bounds-needs-n
 offset_bounds-needs-n c = omega arith
@@ -62,7 +61,7 @@ pub bounds-needs-n : goal.bounds-needs-n
 bounds-needs-n c = omega arith
 
 pub overflow_cast-payloads : goal.overflow_cast-payloads
-overflow_cast-payloads c = omega (arith, tells _ _ _ _ _ _ _ (sym (whole (goal.at.overflow_cast-payloads c).After-mark_of)), c.loop-at.invariant.short)
+overflow_cast-payloads c = omega (arith, tells _ _ _ _ _ _ _ (sym (whole (goal.at.overflow_cast-payloads c).In-Whole)), c.loop-at.invariant.short)
 
 pub offset_bounds-payloads-n : goal.offset_bounds-payloads-n
 offset_bounds-payloads-n c = omega arith
@@ -74,13 +73,13 @@ pub overflow_add-n : goal.overflow_add-n
 overflow_add-n c = omega arith
 
 pub loop-at-smaller : goal.loop-at-smaller
-loop-at-smaller c = omega (arith, tells _ _ _ _ _ _ _ (sym (whole (goal.at.loop-at-smaller c).Else-more-gt-MARKS)))
+loop-at-smaller c = omega (arith, tells _ _ _ _ _ _ _ (sym (whole (goal.at.loop-at-smaller c).In-Whole)))
 
 pub loop-at-preserved : goal.loop-at-preserved
 loop-at-preserved c =
     let g = c.requires in
     let more = ap (λ (j : ℕ). c.loop-at.marks + j) c.mark_of.ensures.0 in
-    advance c.loop-at.invariant _ _ _ _ _ _ _ c.loop-at-test.true (whole (goal.at.loop-at-preserved c).Else-more-gt-MARKS) (omega arith) c.if-more-gt-MARKS.false c.run_need-need.ensures more g.0 g.1.0 g.1.1.0 g.1.1.1
+    advance c.loop-at.invariant _ _ _ _ _ _ _ c.loop-at-test.true (whole (goal.at.loop-at-preserved c).In-Whole) (omega arith) c.if-more-gt-MARKS.false c.run_need-need.ensures more g.0 g.1.0 g.1.1.0 g.1.1.1
 
 pub returns : goal.returns
 returns c = finish_good c.loop-at.invariant (walk_end c.args.bytes.now c.loop-at.marks c.loop-at.at (4096 - c.loop-at.n) c.loop-at-test.false)
