@@ -80,8 +80,8 @@ same_rising [] (y ∷ ys) r q a b = absurd b.0
 same_rising (x ∷ xs) [] r q a b = absurd a.0
 same_rising (x ∷ xs) (y ∷ ys) r q a b =
     let e = first_same x y xs ys r q a.0 b.0 in
-    let a' = after x xs ys r.0 (rw (← e) at a.1) in
-    let b' = after x ys xs (rw (← e) at q.0) b.1 in
+    let a' = after x xs ys r.0 (subst (λ (w : ℕ). Each (λ z. In z (w ∷ ys)) xs) (sym e) a.1) in
+    let b' = after x ys xs (subst (λ (w : ℕ). Each (λ z. w < z) ys) (sym e) q.0) b.1 in
     ap (λ (z : ℕ). z ∷ xs) e ∙ ap (λ (z : List ℕ). y ∷ z) (same_rising xs ys r.1 q.1 a' b')
 
 -- ---- the list of the marks

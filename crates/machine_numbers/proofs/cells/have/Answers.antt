@@ -2,12 +2,11 @@
 use mathlib.Core.Path.{◌≡◌, refl}
 use Prim.Native.Nat.{ℕ, ◌-◌, ◌≤◌}
 use native.Mathlib.Omega.{arith}
-use borrow.Author.Rules.{rules}
 use borrow.Author.Tests.{lt-ltb, le-ltb}
 use Rattle.basics.specs.Pick.{pick}
 use Rattle.machine_numbers.specs.Numbers.{having}
-use Rattle.machine_numbers.proofs.cells.have.Statement.{statement}
-use Rattle.machine_numbers.proofs.cells.have.Tie as tie
+use borrow.Author.Rules.{rules}
+use Rattle.machine_numbers.proofs.cells.have.Goals as goal
 
 -- none is asked for, and none is left
 no_cells : (m l at n : ℕ) → n ≡ 0 → 0 ≡ having m l at n
@@ -18,14 +17,22 @@ none : (m l at n : ℕ) → l ≤ at → (n ≡ 0 → ⊥) → m ≡ having m l 
 unfolding having pick
 none m l at n h z = let e : l - at ≡ 0 = omega arith in rw (e, lt-ltb 0 n (omega arith)) (omega arith)
 
-pub have-spec : {M : Type 1} → statement M
+pub returns-then-n-eq0 : goal.returns-then-n-eq0
 unfolding having pick
-have-spec =
-    tie.close
-    (tie.spec
-    (λ c. no_cells _ _ _ _ c.if2.true)
-    (λ c. none _ _ _ _ c.before.if1.true c.if2.false)
-    (λ c. search rules)
-    (λ c κs. search rules)
-    (λ c. rw (lt-ltb _ _ c.before.if3.true) c.with-lane.ensures)
-    (λ c. rw (le-ltb _ _ c.if3.false) refl))
+returns-then-n-eq0 c = no_cells _ _ _ _ c.if-n-eq0.true
+
+pub returns-then-l-at : goal.returns-then-l-at
+unfolding having pick
+returns-then-l-at c = none _ _ _ _ c.if-l-at.true c.if-n-eq0.false
+
+pub with_lane-requires : goal.with_lane-requires
+unfolding having pick
+with_lane-requires c = search rules
+
+pub returns-then-lane-n : goal.returns-then-lane-n
+unfolding having pick
+returns-then-lane-n c = rw (lt-ltb _ _ c.if-lane-n.true) c.with_lane.ensures
+
+pub returns : goal.returns
+unfolding having pick
+returns c = rw (le-ltb _ _ c.if-lane-n.false) refl

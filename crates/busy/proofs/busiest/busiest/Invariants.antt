@@ -1,0 +1,16 @@
+-- `busy::busiest::busiest` meets its contract. Assumes nothing.
+use Prim.Native.Nat.{◌+◌, ◌≤◌, ◌-◌}
+use mathlib.Core.Path.{◌≡◌, refl}
+use native.Mathlib.Omega.{arith}
+use lib.ListN.{length, take, drop}
+use Rattle.busy.specs.Busiest.{blanks, listed, unlisted, ranked}
+use Rattle.busy.proofs.Insertion.{rank_start, rank_on, rank_end}
+use borrow.Author.Rules.{rules}
+use Rattle.busy.proofs.busiest.busiest.Given as goal
+
+abbrev pub invariant-loop-i : goal.invariant-loop-i
+invariant-loop-i l =
+    (l.i ≤ length l.counts) × (l.b.n ≤ 10) × (length l.b.ops ≡ 10) × (listed l.b ≡ take 10 (ranked l.i (drop l.i l.counts))) × (unlisted l.b ≡ blanks (10 - l.b.n))
+
+abbrev pub decreases-loop-i : goal.decreases-loop-i
+decreases-loop-i l = l.i

@@ -1,0 +1,11 @@
+-- `busy::busiest::other_of` meets its contract. Assumes nothing.
+use Rattle.busy.specs.Busiest.{other_of}
+use Rattle.busy.proofs.busiest.other_of.Goals as goal
+
+pub returns-then-is_busier : goal.returns-then-is_busier
+unfolding other_of
+returns-then-is_busier c = simp (c.if-is_busier.true, ← c.is_busier.ensures)
+
+pub returns : goal.returns
+unfolding other_of
+returns c = simp (c.if-is_busier.false, ← c.is_busier.ensures)

@@ -1,0 +1,17 @@
+-- `busy::sums::adds_up` meets its contract. Assumes nothing.
+use Prim.Native.Nat.{◌+◌, ◌≤◌, ◌<◌, ◌-◌}
+use mathlib.Core.Path.{◌≡◌, ◌∙◌, sym}
+use native.Mathlib.Omega.{arith}
+use borrow.Author.Tests.{ne_eqb, eq-eqb, lt-leb, not-true, not-false}
+use lib.ListN.{length, get_or}
+use Rattle.busy.specs.Sums.{most_steps, adds_up}
+use Rattle.busy.proofs.Adding.{adds_from, adds_end, adds_not, adds_over, adds_on, adds_start}
+use borrow.Author.Rules.{rules}
+use Rattle.busy.proofs.sums.adds_up.Given as goal
+
+abbrev pub invariant-loop-i : goal.invariant-loop-i
+invariant-loop-i l =
+    (l.i ≤ length l.counts) × (l.sum ≤ most_steps) × (adds_up l.rows l.counts l.total ≡ adds_from l.rows l.counts l.total l.i l.sum)
+
+abbrev pub decreases-loop-i : goal.decreases-loop-i
+decreases-loop-i l = length l.counts - l.i

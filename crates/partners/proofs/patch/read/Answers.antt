@@ -1,0 +1,26 @@
+-- `partners::patch::read` meets its contract. Assumes nothing.
+use mathlib.Core.Path.{◌≡◌, ◌∙◌, refl, ap, sym}
+use mathlib.Core.List.{List, map}
+use Prim.Native.Nat.{ℕ}
+use native.Mathlib.Omega.{arith}
+use Rattle.ops.specs.Patch.{row_in}
+use Rattle.file_laws.proofs.Loaded.{part_fits, part_length, part_few, part_is}
+use Rattle.partners.specs.Read.{patch_read}
+use Rattle.partners.proofs.Lent.{few_functions}
+use Rattle.partners.proofs.Whole.{as_read}
+use borrow.Author.Rules.{rules}
+use Rattle.partners.proofs.patch.read.Goals as goal
+
+pub slice_bounds-rows-end : goal.slice_bounds-rows-end
+slice_bounds-rows-end c = let l = c.load-r.ensures in part_fits _ _ l.0 row_in _ _ l.1.0
+
+pub slice_bounds-find_partners-end : goal.slice_bounds-find_partners-end
+slice_bounds-find_partners-end c = let l = c.load-r.ensures in part_length _ _ l.0 row_in _ _ l.1.0
+
+pub find_partners-first-requires : goal.find_partners-first-requires
+find_partners-first-requires c =
+    let l = c.load-r.ensures in
+    (part_few _ _ l.0 row_in _ _ l.1.0, search rules, search rules, search rules, rw (part_is _ _ l.0 row_in _ _ l.1.0) (few_functions _))
+
+pub returns : goal.returns
+returns c = as_read _ _ _ _ _ _ c.load-r.ensures _ _ _ _ c.find_partners-first.ensures

@@ -1,0 +1,17 @@
+-- `searches::table::insert` meets its contract: after each turn the `moved` entries from i on stand one place higher. Assumes nothing.
+use mathlib.Core.Path.{◌≡◌, refl}
+use Prim.Native.Nat.{◌+◌, ◌≤◌}
+use native.Mathlib.Omega.{arith}
+use lib.ListN.{length, take}
+use Rattle.machine_model.specs.Formed.{Rising}
+use Rattle.searches.specs.Found.{above}
+use Rattle.searches.proofs.Tables.{raised, room_begins, room_goes, higher, entered_new}
+use borrow.Author.Rules.{rules}
+use Rattle.searches.proofs.table.insert.Given as goal
+
+abbrev pub invariant-loop-i : goal.invariant-loop-i
+invariant-loop-i l =
+    (l.at ≤ l.i) × (l.moved + l.i ≡ l.n) × (length l.table ≡ length l.initial.table) × (l.table ≡ raised l.i l.n l.initial.table)
+
+abbrev pub decreases-loop-i : goal.decreases-loop-i
+decreases-loop-i l = l.i
