@@ -34,16 +34,16 @@ slice_bounds-write_all-end-3 c = array_long payload_in _ _ _ c.load-read.ensures
 pub write_all-len-requires : goal.write_all-len-requires
 write_all-len-requires c =
     let p = c.push_all-n in
-    let is = p.new.1.1.1.1.1.0 in
-    let vs = p.new.1.1.1.1.1.1.0 in
+    let is = p.new.ops in
+    let vs = p.new.values in
     let a = c.args in
     let s = a.bytes.now in
     let l = c.load-read.ensures in
     let f = few s _ l.value in
     let w = all_below s c.type_inv.bytes in
     let h = holds s _ l.value _ _ _ _ _ _ l.rows_after l.counts_after l.payloads_after in
-    let i = entries_within s _ l.value _ _ _ _ _ _ l.rows_after l.counts_after l.payloads_after is vs p.result p.ensures.0.1 in
-    let o = file_fits s _ l.value _ _ _ _ _ _ l.rows_after l.counts_after l.payloads_after is vs p.result p.ensures.0.1 in
+    let i = entries_within s _ l.value _ _ _ _ _ _ l.rows_after l.counts_after l.payloads_after is vs p.result p.ensures.upper_bound.1 in
+    let o = file_fits s _ l.value _ _ _ _ _ _ l.rows_after l.counts_after l.payloads_after is vs p.result p.ensures.upper_bound.1 in
     let z = c.if-number-ne0.false in
     let room = c.if-out-bytes.false in
     (w, (h, (i, (omega (arith, p.ensures, f), (omega (arith, p.ensures, f), o z w a.out.now room)))))

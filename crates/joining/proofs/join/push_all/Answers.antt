@@ -21,7 +21,7 @@ loop-i-preserved c =
     let w = c.loop-i.invariant in
     let g = c.requires.1.1.1.1 in
     let e = c.push-n.ensures in
-    more_pushed w (reads (goal.at.loop-i-preserved c).After-payload_of-p) v.value_of_lem.ensures _ _ _ e.upper_bound (e.ops_len.0 ∙ sym (w.ops ∙ g.0)) (e.ops_len.1 ∙ sym (w.values ∙ g.1))
+    more_pushed w (reads (goal.at.loop-i-preserved c).After-payload_of-p) c.value_of-v.ensures _ _ _ e.upper_bound (e.ops_len.0 ∙ sym (w.ops ∙ g.0)) (e.ops_len.1 ∙ sym (w.values ∙ g.1))
 
 pub returns : goal.returns
 returns c = record { upper_bound = all_pushed c.loop-i.invariant c.loop-i-test.false; ops_len = search rules }
