@@ -10,11 +10,11 @@ use borrow.Author.Rules.{rules}
 use Rattle.states.proofs.formed.is_formed.Goals as goal
 
 -- what a call answered, by its contract, where the code went on and where it did not
-passed : {a b : Bool} → a ≡ b → not a ≡ false → b ≡ true
-passed e t = sym e ∙ not-false _ t
+passed : {a b : Bool} → a ≡ b → a ≡ true → b ≡ true
+passed e t = sym e ∙ t
 
-failed : {a b : Bool} → a ≡ b → not a ≡ true → b ≡ false
-failed e t = sym e ∙ not-true _ t
+failed : {a b : Bool} → a ≡ b → a ≡ false → b ≡ false
+failed e t = sym e ∙ t
 
 pub returns-then-not-has_room : goal.returns-then-not-has_room
 unfolding is_formed
