@@ -69,10 +69,13 @@ write_bodies-bodies-requires c =
     let z = c.if-number-ne0.false in
     let a = c.args in
     let w = c.type_inv.bytes in
-    let f = fits _ _ l.value c.if-number-ne0.false _ _ l.rows_after _ _ _ c.in_default.is c.number_ops-numbering.ensures.seen_after a.out.now a.numbers.now a.firsts.now a.counts.now in (
-      (good _ _ l.value z, (length-take-le _ _ (omega (arith, few _ _ l.value, n.owner_len.0)) ∙ sym (op_count _ _ l.value z), n.owner_len.1)),
-      f c.if-out-bytes.false _ c.count_marks-marks.ensures c.if-numbers-marks.false c.if-firsts-marks.false c.if-counts-marks.false (λ i. (w i).fits),
-    )
+    let f = fits _ _ l.value c.if-number-ne0.false _ _ l.rows_after _ _ _ c.in_default.is c.number_ops-numbering.ensures.seen_after a.out.now a.numbers.now a.firsts.now a.counts.now in
+    let r = f c.if-out-bytes.false _ c.count_marks-marks.ensures c.if-numbers-marks.false c.if-firsts-marks.false c.if-counts-marks.false (λ i. (w i).fits) in
+    record {
+      bytes_value = (good _ _ l.value z, (length-take-le _ _ (omega (arith, few _ _ l.value, n.owner_len.0)) ∙ sym (op_count _ _ l.value z), n.owner_len.1));
+      bytes_len_bound = r.0;
+      seen_in_bounds = r.1;
+    }
 
 pub returns : goal.returns
 returns c =
