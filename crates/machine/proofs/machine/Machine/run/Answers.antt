@@ -38,4 +38,6 @@ pub slice_bounds-run_loaded-end-4 : goal.slice_bounds-run_loaded-end-4
 slice_bounds-run_loaded-end-4 c = part_length _ _ c.load-read.ensures.value payload_in _ _ c.load-read.ensures.payloads_after
 
 pub run_loaded-requires : goal.run_loaded-requires
-run_loaded-requires c = (is_loaded _ _ _ _ _ _ _ _ _ _ c.load-read.ensures c.if-number-ne0.false, c.adds_up-stand.ensures)
+run_loaded-requires c =
+    let l = c.load-read.ensures in
+    (is_loaded _ _ _ _ _ _ _ _ _ _ (l.value, (l.rows_after, (l.counts_after, (l.needs_after, l.payloads_after)))) c.if-number-ne0.false, c.adds_up-stand.ensures)

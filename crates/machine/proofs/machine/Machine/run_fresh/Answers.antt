@@ -1,5 +1,6 @@
 -- `machine::machine::Machine::run_fresh` meets its contract. Assumes nothing.
-use mathlib.Core.Path.{◌∙◌, sym}
+use mathlib.Core.Path.{◌∙◌, sym, ap}
+use mathlib.Core.Bool.{not}
 use native.Mathlib.Omega.{arith}
 use borrow.Author.Tests.{not-false}
 use Rattle.ops.specs.Patch.{row_in, count_in, need_in, payload_in}
@@ -13,10 +14,10 @@ pub returns-then-number-ne0 : goal.returns-then-number-ne0
 returns-then-number-ne0 c = fresh_bad _ _ _ c.load-read.ensures.value c.if-number-ne0.true _ _ c.fresh-m.ensures _ _
 
 pub returns-then-not-can_start : goal.returns-then-not-can_start
-returns-then-not-can_start c = fresh_cramped _ _ _ c.load-read.ensures.value c.if-number-ne0.false _ _ c.fresh-m.ensures _ _ c.can_start.ensures c.if-not-can_start.true _
+returns-then-not-can_start c = fresh_cramped _ _ _ c.load-read.ensures.value c.if-number-ne0.false _ _ c.fresh-m.ensures _ _ c.can_start.ensures (ap not c.if-not-can_start.true) _
 
 pub returns-then-tally-n : goal.returns-then-tally-n
-returns-then-tally-n c = fresh_uneven _ _ _ c.load-read.ensures.value c.if-number-ne0.false _ _ c.fresh-m.ensures _ _ c.can_start.ensures c.if-not-can_start.false c.if-tally-n.true _
+returns-then-tally-n c = fresh_uneven _ _ _ c.load-read.ensures.value c.if-number-ne0.false _ _ c.fresh-m.ensures _ _ c.can_start.ensures (ap not c.if-not-can_start.false) c.if-tally-n.true _
 
 pub zero-requires : goal.zero-requires
 zero-requires c = (starts _ _ _ _ (sym c.can_start.ensures ∙ c.if-not-can_start.false)).1.wide
@@ -47,9 +48,9 @@ slice_bounds-run_loaded-end-4 c = part_length _ _ c.load-read.ensures.value payl
 
 pub run_loaded-requires : goal.run_loaded-requires
 run_loaded-requires c =
-    let h = c.load-read.ensures in (
-      is_loaded _ _ _ _ _ _ _ _ _ _ h c.if-number-ne0.false,
-      fresh_stands _ _ c.fresh-m.ensures _ _ _ _ c.if-tally-n.false (sym (part_length _ _ h.value row_in _ _ h.rows_after)) c.zero-3.ensures,
+    let l = c.load-read.ensures in (
+      is_loaded _ _ _ _ _ _ _ _ _ _ (l.value, (l.rows_after, (l.counts_after, (l.needs_after, l.payloads_after)))) c.if-number-ne0.false,
+      fresh_stands _ _ c.fresh-m.ensures _ _ _ _ c.if-tally-n.false (sym (part_length _ _ l.value row_in _ _ l.rows_after)) c.zero-3.ensures,
     )
 
 pub shape_of-register : goal.shape_of-register
@@ -65,5 +66,5 @@ pub returns : goal.returns
 returns c =
     let d = slices c.args.register.now c.args.tape.now c.args.table.now c.args.channel.now c.args.output.now c.args.tally.now in
     c.run_loaded.ensures
-    ∙ fresh_called _ _ _ c.load-read.ensures.value c.if-number-ne0.false _ _ c.fresh-m.ensures d _ c.can_start.ensures c.if-not-can_start.false c.if-tally-n.false _ _ _
+    ∙ fresh_called _ _ _ c.load-read.ensures.value c.if-number-ne0.false _ _ c.fresh-m.ensures d _ c.can_start.ensures (ap not c.if-not-can_start.false) c.if-tally-n.false _ _ _
     c.zero.ensures c.zero-2.ensures c.zero-3.ensures c.register-1.given _

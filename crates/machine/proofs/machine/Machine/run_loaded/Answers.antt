@@ -27,4 +27,6 @@ pub slice_bounds-run_read-end-3 : goal.slice_bounds-run_read-end-3
 slice_bounds-run_read-end-3 c = let p = c.find_partners-first.ensures.rows_value in omega (arith, end_long _ _ _ _ p.0 p.1)
 
 pub run_read-requires : goal.run_read-requires
-run_read-requires c = (is_read _ _ _ _ _ c.requires.0 _ _ _ _ _ _ _ c.find_partners-first.ensures refl, c.requires.1)
+run_read-requires c =
+    let p = c.find_partners-first.ensures in
+    (is_read _ _ _ _ _ c.requires.0 _ _ _ _ _ _ _ (p.partners_after, (p.turns_after, p.rows_value)) refl, c.requires.1)
