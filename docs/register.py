@@ -8,8 +8,8 @@ A crate has its section in the order of crates.txt; a program has none. Of each 
 - its path, module::name or Type::name, with the word 'own' where its module is private, so that its own crate alone can call it;
 - the first sentence of the comment right above it;
 - whether it asks something of its caller, a `requires`;
-- the names in its `ensures` that its file imports by 'ghost use Rattle.CRATE.specs.FILE', each with the file that defines it, or for a library
-  of the toolchain with that library's name. What `std` has, which every contract speaks by, is left out.
+- the names in its `ensures` that its file imports by 'ghost use Rattle.NAME..', each with the file that defines it, or for a library of the
+  toolchain with that library's name; the words of std, which every clause is made of, are left out.
 """
 import pathlib
 import re
@@ -38,10 +38,8 @@ def imports(crate, text):
     """The names that a file may cite, each with the file of its definition; and the names that stand for a whole file."""
     names, files = {}, {}
     for owner, path, listed, short in re.findall(r"^ghost use Rattle\.(\w+)\.([\w.]+?)(?:\.\{([^}]*)\}| as (\w+));", text, re.M):
-        if owner == "std":
-            continue
-        if ".declared." in path:
-            continue  # a struct of the code, which is no definition
+        if owner == "std" or ".declared." in path:
+            continue  # a struct of the code is no definition
         file = ("" if owner == crate else "crates/%s/" % owner) + path.replace(".", "/") + ".antt"
         file = file if (ROOT / "crates" / owner).is_dir() else "`%s`" % owner
         names.update({name.strip(): file for name in listed.split(",") if name.strip()})
@@ -63,7 +61,7 @@ def contract(text, at):
     """What stands between a function's name and its body: its parameters, whether it asks something, and its `ensures`."""
     start, asks, ensures = at, False, ""
     while True:
-        found = re.compile(r"(?:(requires|ensures) (?:\w+ )?)?\{").search(text, at)
+        found = re.compile(r"(?:(requires|ensures)\*?(?: \w+)? )?\{").search(text, at)
         if at == start:
             parameters = re.findall(r"(\w+):(?!:)", text[start:found.start()])
         if not found[1]:
@@ -90,14 +88,12 @@ def cited(crate, text, parameters, ensures):
     if not ensures:
         return "none"
     names, files = imports(crate, text)
-    words = []
-    for word in re.split(r"[\s(){}]+", ensures):
-        first, _, rest = word.partition(".")
-        if first in files and rest:
-            names[rest] = files[first]
-            words.append(rest)
-        elif first not in parameters:
-            words.append(first)
+    words = [word for word in re.split(r"[\s(){}]+", ensures) if word not in parameters]
+    for word in list(words):
+        short, dot, name = word.partition(".")
+        if short in files and dot:
+            names[name] = files[short]
+            words.append(name)
     by = {}
     for name, file in names.items():
         if name in words:
