@@ -18,7 +18,7 @@ use searches::table;
 
 // After the op at e; 20 where there is none.
 fn jump(at: usize, position: &mut usize, rows: &[u8], e: usize) -> u32
-    requires { length rows.now ≤ limit.mostOps }
+    requires { length rows.now ≤ limit.most_ops }
     ensures { (p : Numbers) → left result at (at_position p position.new) ≡ jump_of rows.now (at_position p at) e }
 {
     if rows.len() <= e {

@@ -11,7 +11,7 @@ use answers::flatten::{Flattened, bodies_of};
 use patch_reader::reader::Read;
 
 // The answer, how many entries there are, and their numbers, first ops and op counts.
-#[derive(Drop)]
+#[derive(Clone, Copy)]
 pub struct Columns {
     pub numbers: [u32; Read::MARKS],
     pub firsts: [u32; Read::MARKS],

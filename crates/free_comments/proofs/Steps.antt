@@ -160,6 +160,8 @@ module _ (A : List Op) (bs : List ℕ) (B : List Op) where
   -- past what a search finds
   jump_sent : (u : State) (o o' : Option ℕ) → Met a o o' → jump (placed f u) o' ≡ sent f (jump u o)
   jump_sent u none none lost = refl
+  jump_sent u none (some j') x = elim x [ ]
+  jump_sent u (some j) none x = elim x [ ]
   jump_sent u (some j) (some j') (hit n e) = ap (λ (p : ℕ). next (go_to (placed f u) p)) (ap suc e ∙ sym (skip_suc a j n))
 
   module _ (mode : ℕ) (input : List ℕ) (room : ℕ) (s : State) (places : Places os (Landing os) s.calls s.table) (off : s.at ≡ a → ⊥) where
@@ -192,6 +194,8 @@ module _ (A : List Op) (bs : List ℕ) (B : List Op) where
 
     found_sent : (o o' : Option ℕ) → Met a o o' → ((m : ℕ) → o ≡ some m → is_function (op_at os m) ≡ true) → found s' o' ≡ sent f (found s o)
     found_sent none none lost h = refl
+    found_sent none (some m') x h = elim x [ ]
+    found_sent (some m) none x h = elim x [ ]
     found_sent (some m) (some m') (hit n e) h =
         let p : suc m' ≡ f (suc m) = ap suc e ∙ sym (skip_suc a m n) in
         let q = map-append f s.calls (s.at ∷ []) in
@@ -208,6 +212,8 @@ module _ (A : List Op) (bs : List ℕ) (B : List Op) where
 
     again_sent : (o o' : Option ℕ) → Met a o o' → again g' s' o' ≡ sent f (again g s o)
     again_sent none none lost = onward
+    again_sent none (some w') x = elim x [ ]
+    again_sent (some w) none x = elim x [ ]
     again_sent (some w) (some w') (hit n e) =
         ap (λ (o : Op). next (cond (is_while o) (go_to s' (suc w')) (on s'))) (ap (op_at os') e ∙ same_op w n) ∙ by (is_while (op_at os w))
       where

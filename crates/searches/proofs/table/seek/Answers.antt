@@ -6,7 +6,7 @@ use lib.ListN.{take, get_or}
 use Rattle.searches.specs.Found.{below}
 use Rattle.searches.proofs.Tables.{Side, within, turns, found_there, found_missing}
 use Rattle.searches.proofs.table.seek.Goals as goal
-use Rattle.searches.proofs.table.seek.Goals.{After-shared_slice_known-in-loop-low-1, Start}
+use Rattle.searches.proofs.table.seek.Goals.{Start}
 
 -- where v belongs: at most n, and on one side of each entry
 least : (c : Start) → below c.args.v (take c.args.n c.args.table.now) ≤ c.args.n
@@ -15,11 +15,6 @@ least c = within _ _ _ c.requires
 beside : (c : Start) (k : ℕ) → k < c.args.n → let a = c.args in
     Side a.v (get_or a.table.now k 0) k (below a.v (take a.n a.table.now))
 beside c = turns _ _ _ c.requires
-
-middle : (c : After-shared_slice_known-in-loop-low-1) → let a = c.args in
-    let turn = c.loop-low in let k = turn.low + (turn.high - turn.low) / 2 in
-    Side a.v (get_or a.table.now k 0) k (below a.v (take a.n a.table.now))
-middle c = beside (goal.at.GOAL c).Start _ (omega arith)
 
 pub returns-then-n-eq0 : goal.returns-then-n-eq0
 returns-then-n-eq0 c = found_missing _ _ _ c.requires _ (omega (arith, least (goal.at.returns-then-n-eq0 c).Start)) (λ h e. omega arith)
@@ -34,10 +29,10 @@ pub loop-low-init : goal.loop-low-init
 loop-low-init c = (omega arith, least (goal.at.loop-low-init c).Start, omega arith)
 
 pub loop-low-preserved-then-table-middle : goal.loop-low-preserved-then-table-middle
-loop-low-preserved-then-table-middle c = (⊎_elim (λ w. omega arith) (λ w. omega arith) (middle (goal.at.loop-low-preserved-then-table-middle c).After-shared_slice_known-in-loop-low-1), omega arith, omega arith)
+loop-low-preserved-then-table-middle c = (⊎_elim (λ w. omega arith) (λ w. omega arith) (beside (goal.at.loop-low-preserved-then-table-middle c).Start (c.loop-low.low + (c.loop-low.high - c.loop-low.low) / 2) (omega arith)), omega arith, omega arith)
 
 pub loop-low-preserved : goal.loop-low-preserved
-loop-low-preserved c = (omega arith, ⊎_elim (λ w. omega arith) (λ w. omega arith) (middle (goal.at.loop-low-preserved c).After-shared_slice_known-in-loop-low-1), omega arith)
+loop-low-preserved c = (omega arith, ⊎_elim (λ w. omega arith) (λ w. omega arith) (beside (goal.at.loop-low-preserved c).Start (c.loop-low.low + (c.loop-low.high - c.loop-low.low) / 2) (omega arith)), omega arith)
 
 pub returns-then-table-low : goal.returns-then-table-low
 returns-then-table-low c = found_there _ _ _ c.requires _ (omega arith) (omega arith) c.if-table-low.true

@@ -1,0 +1,13 @@
+-- `flattening::bodies::copy_body` meets its contract. Assumes nothing.
+use Prim.Native.Nat.{ℕ, ◌+◌, ◌-◌, ◌≤◌}
+use mathlib.Core.Path.{◌≡◌, ap}
+use lib.ListN.{length}
+use native.Mathlib.Omega.{arith}
+use Rattle.flattening.proofs.Copying.{Copying, begin, head_fits, size_fits, part_fits, on, next_is, count_is, out_is}
+use Rattle.flattening.proofs.bodies.copy_body.Given as goal
+
+abbrev pub invariant-loop-i : goal.invariant-loop-i
+invariant-loop-i l = Copying l.bytes l.owner l.number l.initial.out l.at l.out l.from l.next l.ops l.i
+
+abbrev pub decreases-loop-i : goal.decreases-loop-i
+decreases-loop-i l = length l.owner - l.i

@@ -1,0 +1,18 @@
+-- `flattening::bodies::write_bodies` meets its contract. Assumes nothing.
+use Prim.Native.Nat.{ℕ, ◌+◌, ◌-◌, ◌≤◌, ◌<◌}
+use mathlib.Core.Path.{◌≡◌, sym, ◌∙◌}
+use lib.ListN.{length}
+use native.Mathlib.Omega.{arith}
+use Rattle.flattening.specs.Flatten.{body, others}
+use Rattle.flattening.specs.Scope.{listed}
+use Rattle.flattening.specs.Flattened.{ops_in}
+use Rattle.flattening.proofs.Writing.{Writing, begin, over, bytes_fit, ops_few, entry_fits, on, count_is, main_fits, out_is, numbers_are, firsts_are, counts_are}
+use borrow.Author.Rules.{rules}
+use Rattle.flattening.proofs.bodies.write_bodies.Given as goal
+
+abbrev pub invariant-loop-b : goal.invariant-loop-b
+invariant-loop-b l =
+    Writing l.owner (ops_in l.bytes) l.seen l.initial.out l.initial.numbers l.initial.firsts l.initial.counts l.out l.numbers l.firsts l.counts l.at l.first l.n l.b × (1 ≤ l.b)
+
+abbrev pub decreases-loop-b : goal.decreases-loop-b
+decreases-loop-b l = 4097 - l.b

@@ -1,0 +1,16 @@
+-- `flattening::numbers::count_marks` meets its contract. Assumes nothing.
+use Prim.Native.Nat.{◌-◌, ◌+◌, ◌≤◌}
+use mathlib.Core.Path.{◌≡◌, ◌∙◌, ap}
+use Rattle.ops.specs.Patch.{mark_of}
+use lib.ListN.{length, drop}
+use native.Mathlib.Omega.{arith}
+use Rattle.flattening.specs.Scope.{row_marks}
+use Rattle.flattening.proofs.NumberingLoop.{marks_at, marks_end}
+use Rattle.flattening.proofs.numbers.count_marks.Given as goal
+
+abbrev pub invariant-loop-i : goal.invariant-loop-i
+invariant-loop-i l =
+    (l.i ≤ length l.rows) × (l.marks + row_marks (drop l.i l.rows) ≡ row_marks l.rows) × (l.marks ≤ l.i)
+
+abbrev pub decreases-loop-i : goal.decreases-loop-i
+decreases-loop-i l = length l.rows - l.i

@@ -1,0 +1,13 @@
+-- `joining::join::push_all` meets its contract. Assumes nothing.
+use Prim.Native.Nat.{◌-◌}
+use mathlib.Core.Path.{◌∙◌, sym}
+use Rattle.joining.proofs.Records.{Reads, Pushed, asks_value, none_pushed, more_pushed, all_pushed}
+use borrow.Author.Rules.{rules}
+use Rattle.joining.proofs.join.push_all.Given as goal
+
+abbrev pub invariant-loop-i : goal.invariant-loop-i
+invariant-loop-i l =
+    Pushed l.bytes l.rows l.counts l.count l.initial.ops l.initial.values l.ops l.values l.n l.i
+
+abbrev pub decreases-loop-i : goal.decreases-loop-i
+decreases-loop-i l = l.count - l.i

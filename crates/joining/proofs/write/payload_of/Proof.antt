@@ -1,8 +1,0 @@
--- `joining::write::payload_of` meets its contract. Assumes nothing.
-use borrow.Author.Rules.{rules}
-use lib.ListN.{get_or-eq_default}
-use Rattle.joining.proofs.write.payload_of.Statement.{statement}
-use Rattle.joining.proofs.write.payload_of.Tie as tie
-
-pub payload-of-spec : {M : Type 1} → statement M
-payload-of-spec = tie.close (tie.spec (λ c. search get_or-eq_default) (λ c. search rules) (λ c. search rules) (search) (λ c. search rules))

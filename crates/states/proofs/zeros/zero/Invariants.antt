@@ -1,0 +1,17 @@
+-- `states::zeros::zero` meets its contract. Assumes nothing.
+use mathlib.Core.Path.{◌≡◌, refl}
+use Prim.Native.Nat.{◌-◌, ◌≤◌}
+use native.Mathlib.Omega.{arith}
+use lib.ListN.{length, length-set}
+use Rattle.byte_fields.specs.Storage.{fill}
+use Rattle.states.specs.Zeros.{zeroed}
+use Rattle.states.proofs.Entries.{zero_on}
+use borrow.Author.Rules.{rules}
+use Rattle.states.proofs.zeros.zero.Given as goal
+
+abbrev pub invariant-loop-i : goal.invariant-loop-i
+invariant-loop-i l =
+    (l.i ≤ l.n) × (length l.lanes ≡ length l.initial.lanes) × (l.lanes ≡ zeroed l.i l.initial.lanes)
+
+abbrev pub decreases-loop-i : goal.decreases-loop-i
+decreases-loop-i l = l.n - l.i
