@@ -95,15 +95,15 @@ fn check_and_run(file: &[u8], mode: u32) {
 const WORD: [u8; 9] = *b"--by-mark";
 
 // Whether there is an argument of this number; the program's name is argument 0.
-fn has_argument(env: &impl Env, n: usize) -> bool {
+fn has_argument(rt: &HostRuntime, n: usize) -> bool {
     let mut start = [0u8; 1];
-    !matches!(env.arg(n, &mut start), Err(FillError::NotPresent))
+    !matches!(rt.arg(n, &mut start), Err(FillError::NotPresent))
 }
 
 // Whether the first argument is that word.
-fn is_by_mark(env: &impl Env) -> bool {
+fn is_by_mark(rt: &HostRuntime) -> bool {
     let mut word = [0u8; 9];
-    if env.arg(1, &mut word).unwrap_or(0) != 9 {
+    if rt.arg(1, &mut word).unwrap_or(0) != 9 {
         return false;
     }
     let mut i: usize = 0;
@@ -124,11 +124,11 @@ enum Asked {
 }
 
 // With no argument the Rust's mode, with the word the other.
-fn mode_asked(env: &impl Env) -> Asked {
-    if !has_argument(env, 1) {
+fn mode_asked(rt: &HostRuntime) -> Asked {
+    if !has_argument(rt, 1) {
         return Asked::Mode(Machine::RUST_TABLE);
     }
-    if !has_argument(env, 2) && is_by_mark(env) {
+    if !has_argument(rt, 2) && is_by_mark(rt) {
         return Asked::Mode(Machine::BY_MARK);
     }
     Asked::Unknown
