@@ -22,7 +22,7 @@ FIRST, LAST = "<!-- crates: made by docs/crates.py -->", "<!-- end of crates -->
 
 
 def read(text):
-    """The groups, each a heading and its crates, and what each crate is said to stand on."""
+    """The groups, each a heading and its crates, and what each crate is said to stand on. Before the colon words may follow the name, as 'staticlib'."""
     groups, on = [("", [])], {}
     for line in text.splitlines():
         heading = re.match(r"# *(\w+):", line)
@@ -30,8 +30,9 @@ def read(text):
         if heading:
             groups.append((heading[1], []))
         elif colon:
-            groups[-1][1].append(name.strip())
-            on[name.strip()] = names.split()
+            crate = name.split()[0]
+            groups[-1][1].append(crate)
+            on[crate] = names.split()
     return [group for group in groups if group[1]], on
 
 

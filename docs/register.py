@@ -8,8 +8,8 @@ A crate has its section in the order of crates.txt; a program has none. Of each 
 - its path, module::name or Type::name, with the word 'own' where its module is private, so that its own crate alone can call it;
 - the first sentence of the comment right above it;
 - whether it asks something of its caller, a `requires`;
-- the names in its `ensures` that its file imports by 'ghost use Rattle·..', each with the file that defines it, or for a library of the
-  toolchain with that library's name.
+- the names in its `ensures` that its file imports by 'ghost use Rattle.NAME..', each with the file that defines it, or for a library of the
+  toolchain with that library's name; the words of std, which every clause is made of, are left out.
 """
 import pathlib
 import re
@@ -37,9 +37,9 @@ def modules(crate):
 def imports(crate, text):
     """The names that a file may cite, each with the file of its definition; and the names that stand for a whole file."""
     names, files = {}, {}
-    for owner, path, listed, short in re.findall(r"^ghost use Rattle·(\w+)(?:·specs)?\.([\w.]+?)(?:\.\{([^}]*)\}| as (\w+));", text, re.M):
-        if ".declared." in path:
-            continue  # a struct of the code, which is no definition
+    for owner, path, listed, short in re.findall(r"^ghost use Rattle\.(\w+)\.([\w.]+?)(?:\.\{([^}]*)\}| as (\w+));", text, re.M):
+        if owner == "std" or ".declared." in path:
+            continue  # a struct of the code is no definition
         file = ("" if owner == crate else "crates/%s/" % owner) + path.replace(".", "/") + ".antt"
         file = file if (ROOT / "crates" / owner).is_dir() else "`%s`" % owner
         names.update({name.strip(): file for name in listed.split(",") if name.strip()})
@@ -61,14 +61,14 @@ def contract(text, at):
     """What stands between a function's name and its body: its parameters, whether it asks something, and its `ensures`."""
     start, asks, ensures = at, False, ""
     while True:
-        found = re.compile(r"(requires |ensures )?\{").search(text, at)
+        found = re.compile(r"(?:(requires|ensures)\*?(?: \w+)? )?\{").search(text, at)
         if at == start:
             parameters = re.findall(r"(\w+):(?!:)", text[start:found.start()])
         if not found[1]:
             return parameters, asks, ensures
         at = block(text, found.end() - 1)
-        asks = asks or found[1] == "requires "
-        ensures += text[found.end():at] if found[1] == "ensures " else ""
+        asks = asks or found[1] == "requires"
+        ensures += text[found.end():at] if found[1] == "ensures" else ""
 
 
 def said(text, at):
