@@ -1,6 +1,7 @@
-"""What the Python commands here share: how they end, and how a generator keeps the files that it makes."""
+"""What the Python commands here share: how they end, how a generator keeps the files that it makes, and where our archive is."""
 import os
 import pathlib
+import subprocess
 import sys
 
 ROOT = pathlib.Path(__file__).resolve().parent.parent
@@ -44,3 +45,14 @@ def keep(home, made, args, words):
         (home / name).write_bytes(made[name])
     print(words)
     return 0
+
+
+def archive():
+    """The whole path of our archive, the calls to link: of the one that ARCHIVE names, or else of what rt proves and builds."""
+    if os.environ.get("ARCHIVE"):
+        return os.path.abspath(os.environ["ARCHIVE"])
+    linked = ROOT / "crates" / "linked"
+    made = subprocess.run(["rt", "lib"], cwd=linked, stdout=subprocess.PIPE, stderr=subprocess.STDOUT, text=True)
+    if made.returncode:
+        sys.exit(made.stdout)
+    return str(linked / "out" / "liblinked.a")

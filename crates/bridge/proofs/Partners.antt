@@ -2,8 +2,8 @@
 -- more entries than there are marks. Assumes nothing.
 use mathlib.Core.Path.{◌≡◌, ◌∙◌, refl, ap, sym}
 use mathlib.Core.Bool.{Bool}
-use mathlib.Core.List.{List, map}
-use Prim.Native.Nat.{ℕ, suc, ◌+◌, ◌≤◌, ◌<◌}
+use mathlib.Core.List.{List}
+use Prim.Native.Nat.{ℕ, suc, ◌≤◌, ◌<◌}
 use native.Mathlib.Omega.{arith}
 use native.Mathlib.Numerals.{add-one}
 use lib.ListN.{length, get_or, take, drop, get_or-map}
@@ -12,10 +12,10 @@ use Rattle.basics.specs.Pick.{pick}
 use Rattle.kind_table.specs.Rows as row
 use Rattle.ops.specs.Syntax.{Op, Bracket, bracket}
 use Rattle.ops.specs.Syntax.Bracket.{flat}
-use Rattle.machine_model.specs.Scan.{op_at, brackets, functions, to_end, to_else, to_open, kth, places_from}
+use Rattle.machine_model.specs.Scan.{op_at, brackets, functions, to_else, kth, places_from}
 use Rattle.machine_model.proofs.Scans.{brackets_at}
 use Rattle.machine_model.proofs.Table.{marks_few}
-use Rattle.partners.specs.Columns.{row_bracket, row_function, place, partner_by, partner_at, partners_of, turns_of, functions_of, first_of, nth_of, else_of, mark_of}
+use Rattle.partners.specs.Columns.{row_bracket, place, partner_by, partner_at, partners_of, turns_of, functions_of, first_of, nth_of, else_of, mark_of}
 use Rattle.partners.proofs.Stored.{partner_at_lem, if_jump}
 use Rattle.partners.proofs.Marks.{nth_mark, count_places}
 use Rattle.machine_step.specs.Held.{Held}
@@ -24,8 +24,8 @@ use Rattle.bridge.specs.Fits.{Fits}
 use Rattle.bridge.proofs.Control.{Rows}
 use Rattle.bridge.proofs.Decoded.{rows}
 
--- ps, ts and fs hold what the searches find over the ops os, whose kinds have the rows ks: of each op the End that `toEnd` finds or the op that
--- `toOpen` finds, by what it is to a search; of an If, its Else or else its End, what `toElse` finds; of the k-th mark what `kth` finds
+-- ps, ts and fs hold what the searches find over the ops os, whose kinds have the rows ks: of each op the End that `to_end` finds or the op that
+-- `to_open` finds, by what it is to a search; of an If, its Else or else its End, what `to_else` finds; of the k-th mark what `kth` finds
 pub record Searched (os : List Op) (ks ps ts fs : List ℕ) : Type 0 where
   pub partners : (i : ℕ) → i < length os → get_or ps i 0 ≡ place (partner_by (bracket (op_at os i)) (brackets os) i)
   pub elses : (i : ℕ) → i < length os → get_or ks i 0 ≡ row.if → first_of (get_or ts i 0) (get_or ps i 0) ≡ place (to_else (suc i) 0 (drop (suc i) (brackets os)))

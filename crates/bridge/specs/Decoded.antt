@@ -1,6 +1,6 @@
 -- The patch that the machine reads is the file's: its arrays have the items that the reader found. Assumes nothing.
-use Rattle.std.specs.Prelude.{◌≡◌, List, map, ℕ, length}
-use Rattle.ops.specs.Patch.{Item, patch_of, row_in, count_in, need_in, payload_in}
+use Rattle.std.specs.Prelude.{List, map, ℕ, length}
+use Rattle.ops.specs.Patch.{patch_of, row_in, count_in, need_in, payload_in}
 use Rattle.ops.specs.Decode.{op_at}
 use Rattle.ops.specs.Syntax.{Op}
 use Rattle.machine_model.specs.State.{Given, given}

@@ -85,7 +85,7 @@ unfoldable pub run_of : ℕ → ℕ → Code → List ℕ → Held → Ran
 unfolding drive_of past_in
 run_of b k x input c = drive_of b k x input (past_in x c)
 
--- the counts as the code raises them, one step after the other, as `driveOf` makes them
+-- the counts as the code raises them, one step after the other, as `drive_of` makes them
 unfoldable pub drive_counts_of : ℕ → Code → List ℕ → Held → List ℕ → List ℕ
 unfolding pick past_in
 drive_counts_of zero x input c cs = cs

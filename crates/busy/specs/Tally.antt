@@ -1,6 +1,6 @@
 -- 02, ask 11: "The state gains its step total since fresh and a lent count for each op, starting at zero and raised with that op's execution; comments stay
 -- at zero." The run itself stays as it is; this is what becomes of the counts. The total grows by the steps that the run answers. Assumes nothing.
-use Rattle.std.specs.Prelude.{◌≡◌, Bool, true, false, List, [], ◌∷◌, ℕ, zero, suc, ◌+◌, ◌≤◌, ◌<◌, length, get_or}
+use Rattle.std.specs.Prelude.{◌≡◌, Bool, true, false, List, [], ◌∷◌, ℕ, zero, suc, ◌+◌, ◌≤◌, length, get_or}
 use Rattle.ops.specs.Syntax.{Op}
 use Rattle.machine_model.specs.State.{State, Given}
 use Rattle.machine_model.specs.Step.{Outcome, step}

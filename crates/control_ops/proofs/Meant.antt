@@ -9,7 +9,6 @@ use lib.Dec.{leb, ltb, eqb}
 use lib.ListN.{length, get_or, take}
 use borrow.Author.Tests.{ltb-true, lt-leb, lt-ltb, eqb-true, eq-eqb}
 use Rattle.basics.specs.Pick.{pick}
-use Rattle.basics.proofs.Clash.{clash}
 use Rattle.basics.proofs.Tests.{by_case, and_left, and_right}
 use Rattle.machine_model.specs.Formed.{Rising}
 use Rattle.partners.specs.Columns.{functions_of, mark_of}

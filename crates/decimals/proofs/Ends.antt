@@ -1,5 +1,5 @@
 -- Where values that have a property end: one more, none more, and no more than there are. Assumes nothing.
-use Rattle.std.proofs.Common.{◌≡◌, ℕ, zero, suc, ◌+◌, ◌-◌, ◌%◌, ◌<◌, ◌≤◌, Bool, true, false, cond, not, leb, List, [], ◌∷◌, length, get_or, drop, sym, refl, ◌∙◌, subst, le_of_suc-le-suc, not-suc-le-zero, add-zero, add-one, arith, length-drop, drop_of_length-le, drop-cons, leb-true}
+use Rattle.std.proofs.Common.{◌≡◌, ℕ, zero, suc, ◌+◌, ◌%◌, ◌<◌, ◌≤◌, Bool, true, false, cond, not, leb, List, [], ◌∷◌, length, get_or, drop, sym, refl, ◌∙◌, le_of_suc-le-suc, not-suc-le-zero, add-zero, add-one, arith, length-drop, drop_of_length-le, drop-cons, leb-true}
 use borrow.Author.Tests.{not-true, not-false}
 use Rattle.basics.proofs.Tests.{by_case, and_left, and_right}
 use Rattle.decimals.specs.Chars.{is_digit, leading, past}

@@ -1,5 +1,5 @@
 -- The division of two whole numbers that are floats is one rounding of the fraction. Assumes nothing.
-use Rattle.std.proofs.Common.{◌≡◌, ℕ, ◌*◌, ◌^◌, ◌<◌, ◌≤◌, Bool, true, false, not, T, ℤ, pos, sym, refl, ap, ◌∙◌, subst, mul-pos, arith, ne_eqb}
+use Rattle.std.proofs.Common.{◌≡◌, ℕ, ◌*◌, ◌^◌, ◌<◌, ◌≤◌, Bool, true, false, not, T, ℤ, pos, sym, ap, ◌∙◌, subst, mul-pos, arith, ne_eqb}
 use lib.Ieee.{Float, nan, inf, fin, binary64, up, down, round, div, of_int, is_nan, to_bits}
 use lib.Ieee.Fits.{round-fits, down_pos}
 use lib.Ieee.Exact.{HasValue}

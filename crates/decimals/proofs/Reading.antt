@@ -1,5 +1,5 @@
 -- A decimal in the input: where its digits are, the number that they write, and its bound. Assumes nothing.
-use Rattle.std.proofs.Common.{◌≡◌, ℕ, zero, suc, ◌+◌, ◌-◌, ◌*◌, ◌%◌, ◌^◌, ◌<◌, ◌≤◌, Bool, true, false, cond, ltb, List, [], ◌∷◌, ◌++◌, length, get_or, take, drop, sym, refl, ap, ◌∙◌, subst, le_trans, mul-le-mul_right, zero-lt-suc, le-mul_of_pos_right, add-one, arith, length-drop, drop_of_length-le, length-take, get_or-drop, drop-cons, drop-drop, pow-add, ltb-false, ltb-true}
+use Rattle.std.proofs.Common.{◌≡◌, ℕ, suc, ◌+◌, ◌-◌, ◌*◌, ◌%◌, ◌^◌, ◌<◌, ◌≤◌, Bool, true, false, cond, ltb, List, [], ◌∷◌, ◌++◌, length, get_or, take, drop, sym, refl, ap, ◌∙◌, subst, le_trans, mul-le-mul_right, zero-lt-suc, le-mul_of_pos_right, add-one, arith, length-drop, drop_of_length-le, length-take, get_or-drop, drop-cons, drop-drop, pow-add, ltb-false, ltb-true}
 use native.Mathlib.Nat.{pow-le-pow_right, one-le-pow, pow-succ'}
 use Rattle.basics.proofs.Tests.{by_case}
 use Rattle.decimals.specs.Chars.{is_digit, leading, past}

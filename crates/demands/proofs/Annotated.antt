@@ -1,6 +1,6 @@
 -- 02, ask 8, on the code: a patch and the same patch with comments added, run from fresh over the same slices, give the same answers, with the places
 -- moved. Assumes nothing.
-use mathlib.Core.Path.{◌≡◌, ◌∙◌, ap, sym, subst}
+use mathlib.Core.Path.{◌≡◌, ◌∙◌, ap, sym}
 use mathlib.Core.Bool.{true}
 use mathlib.Core.List.{List, ◌∷◌, ◌++◌}
 use Prim.Native.Nat.{ℕ}

@@ -15,7 +15,6 @@ use Rattle.machine_step.specs.Held.{Held}
 use Rattle.bridge.specs.View.{view, lay}
 use Rattle.bridge.specs.Decoded.{code_of, given_to}
 use Rattle.bridge.specs.Run.{passed_in, run_laid, seen}
-use Rattle.bridge.specs.Fits.{Fits}
 use Rattle.bridge.proofs.Decoded.{Bytes}
 use Rattle.states.specs.Formed.{is_formed}
 use Rattle.states.proofs.WellFormed.{formed_fits, fits_formed}

@@ -11,7 +11,6 @@ use Rattle.basics.proofs.Clash.{clash}
 use Rattle.basics.proofs.Tests.{by_case, and_left}
 use Rattle.ops.specs.Patch.{patch_of}
 use Rattle.answers.specs.Run.{number_of}
-use Rattle.answers.specs.declared.run.Answer.{Answer}
 use Rattle.machine_model.specs.State.{State, Given, given, fresh}
 use Rattle.machine_model.specs.Step.{Outcome, step}
 use Rattle.machine_model.specs.Step.Outcome.{finished, refused, next}
@@ -25,7 +24,7 @@ use Rattle.bridge.specs.Run.{standing, passed_in, seen}
 use Rattle.bridge.proofs.Decoded.{Bytes}
 use Rattle.bridge.proofs.Runs.{run_seen}
 use Rattle.machine.specs.Fresh.{fresh_of}
-use Rattle.machine.specs.Calls.{Slices, slices, Tallied, tallied, Shown, shown, shown_of, Ended, ended, run_in, lent, calling, is_state, can_begin, step_call, stepped_to, run_call, ran_to, fresh_on, fresh_call}
+use Rattle.machine.specs.Calls.{Slices, slices, Tallied, tallied, Shown, shown_of, Ended, ended, run_in, lent, calling, is_state, can_begin, step_call, stepped_to, run_call, ran_to, fresh_on, fresh_call}
 use Rattle.machine.specs.declared.machine.Machine.{Machine}
 use Rattle.machine.specs.declared.machine.Stepped.{Stepped}
 use Rattle.machine.specs.declared.machine.Ran as code

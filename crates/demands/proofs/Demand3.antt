@@ -2,7 +2,7 @@
 -- such calls left. Assumes nothing.
 use mathlib.Core.Path.{◌≡◌, ◌∙◌, refl, ap, sym, subst}
 use mathlib.Core.Bool.{true, false}
-use mathlib.Core.List.{List, map}
+use mathlib.Core.List.{List}
 use Prim.Native.Nat.{ℕ}
 use lib.Dec.{eqb}
 use lib.ListN.{length, length-replicate}
@@ -11,7 +11,6 @@ use Rattle.basics.proofs.Clash.{clash}
 use Rattle.basics.proofs.Tests.{by_case, and_left}
 use Rattle.ops.specs.Syntax.{Op}
 use Rattle.ops.specs.Patch.{patch_of}
-use Rattle.ops.specs.Decode.{op_at}
 use Rattle.ops.specs.Decode.Patch.{ops, refused}
 use Rattle.file_laws.proofs.Meaning.{ops_are, refused_are}
 use Rattle.machine_model.specs.State.{State}

@@ -3,7 +3,6 @@ use mathlib.Core.Path.{◌≡◌, ◌∙◌, refl, ap, subst}
 use mathlib.Core.List.{List}
 use Prim.Native.Nat.{ℕ, zero, suc}
 use lib.Dec.{eqb}
-use lib.ListN.{length}
 use Rattle.basics.proofs.Tests.{by_case}
 use Rattle.answers.specs.Run.{number_of}
 use Rattle.machine_model.specs.State.{State, Given}

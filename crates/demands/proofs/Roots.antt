@@ -1,15 +1,13 @@
 -- 02, ask 9, on the model: what FFI Call sends, said without the rule that computes it. A square root is whatever `Root` says is one. Assumes nothing.
 use mathlib.Core.Path.{◌≡◌, ◌∙◌, refl, ap, sym, subst}
-use mathlib.Core.Bool.{Bool, false, ◌||◌}
+use mathlib.Core.Bool.{false}
 use mathlib.Core.List.{List, [], ◌∷◌, ◌++◌}
 use Prim.Native.Nat.{ℕ, ◌^◌, ◌≤◌, ◌<◌}
 use native.Mathlib.Omega.{arith}
-use lib.Dec.{leb, ltb}
 use lib.ListN.{length, drop}
 use borrow.Author.Tests.{lt-leb, lt-ltb, le-ltb}
 use Rattle.basics.specs.Pick.{pick}
 use Rattle.lanes.specs.Float.{float_add}
-use Rattle.ops.specs.Syntax.{Op}
 use Rattle.ops.specs.Syntax.Plain.{ffi_call}
 use Rattle.ops.specs.Syntax.Op.{plain}
 use Rattle.ops.specs.declared.op.Binding.{Binding}

@@ -4,7 +4,7 @@ use mathlib.Core.Bool.{true}
 use mathlib.Core.List.{List}
 use Prim.Native.Nat.{ℕ}
 use native.Mathlib.Omega.{arith}
-use lib.ListN.{length, replicate, length-replicate}
+use lib.ListN.{length, length-replicate}
 use Rattle.byte_fields.specs.Storage.{fill}
 use Rattle.testing_device.specs.Device.{fill_ring}
 use Rattle.machine_model.specs.State.{fresh}

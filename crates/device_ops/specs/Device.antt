@@ -7,7 +7,7 @@ use Rattle.ops.specs.Decode.{mode_in, binding_in}
 use Rattle.ops.specs.declared.op.Mode.{Mode}
 use Rattle.ops.specs.declared.op.Binding.{Binding}
 use Rattle.testing_device.specs.Device.{get_of, put_of}
-use Rattle.testing_device.specs.Room.{Left, put_in}
+use Rattle.testing_device.specs.Room.{put_in}
 use Rattle.testing_device.specs.Channel.{peek_of, poke_in}
 use Rattle.testing_device.specs.Answers.{got_number, put_number, peeked_number, poked_number}
 use Rattle.testing_device.specs.declared.device.Got.{Got}

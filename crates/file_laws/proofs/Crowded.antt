@@ -16,8 +16,7 @@ use Rattle.ops.specs.Syntax.Control.{function, end}
 use Rattle.ops.specs.Syntax.Op.{control}
 use Rattle.ops.specs.Patch.{stop, walk, patch_of, mark_of}
 use Rattle.patch_reader.specs.Answer.{read_of, refused_at}
-use Rattle.ops.specs.Decode.{op_count}
-use Rattle.ops.specs.Write.{payload_of, encode, encode_all, Fits, Each, mark_in, marks_in}
+use Rattle.ops.specs.Write.{encode, encode_all, Fits, Each, mark_in, marks_in}
 use Rattle.ops.specs.declared.refusals.Refusal.{Refusal}
 use Rattle.ops.specs.declared.refusals.Refusal.TheVariants.{TooManyOps, TooManyMarks}
 use Rattle.file_laws.proofs.Digits.{after}

@@ -1,4 +1,4 @@
--- The items that are loaded are the file's ops: their rows, counts and needs are those of `opAt`. Assumes nothing.
+-- The items that are loaded are the file's ops: their rows, counts and needs are those of `op_at`. Assumes nothing.
 use mathlib.Core.Path.{◌≡◌, refl, ◌∙◌, sym, ap}
 use mathlib.Core.Bool.{cond}
 use mathlib.Core.List.{List, [], ◌∷◌, map}

@@ -6,17 +6,17 @@ use mathlib.Core.Path.{◌≡◌, refl, ap, sym, ◌∙◌}
 use mathlib.Core.Bool.{Bool, true, false, cond}
 use mathlib.Core.List.{List, [], ◌∷◌, ◌++◌, append_assoc, append-nil}
 use lib.Dec.{eqb}
-use lib.ListN.{length, get_or, take, drop, length-append, length-drop, drop_of_length-le}
+use lib.ListN.{length, get_or, take, drop, length-append, drop_of_length-le}
 use lib.Seq.{drop-cons, take-append_seam}
-use Rattle.byte_fields.specs.Bytes.{u32_at, text_at, le16, le32}
-use Rattle.ops.specs.Syntax.{Op, kind_of}
+use Rattle.byte_fields.specs.Bytes.{u32_at, text_at}
+use Rattle.ops.specs.Syntax.{Op}
 use Rattle.ops.specs.Syntax.Op.{plain}
 use Rattle.ops.specs.Syntax.Plain.{free}
 use Rattle.ops.specs.Decode.{Patch, ops_of}
 use Rattle.ops.specs.Decode.Patch.{ops}
 use Rattle.ops.specs.Patch.{patch_of}
 use Rattle.byte_fields.specs.Storage.{placed}
-use Rattle.ops.specs.Write.{record_of, payload_of, encode, encode_all, Below}
+use Rattle.ops.specs.Write.{payload_of, encode, encode_all, Below}
 use Rattle.file_laws.proofs.Digits.{after, at32}
 use Rattle.file_laws.proofs.Fitting.{short, below_all}
 use Rattle.file_laws.proofs.Meaning.{ops_are}

@@ -1,4 +1,4 @@
--- The caller's list: what the walks of `write_entries` and `flatten` cite, and the laws of `flattenTo`. Assumes nothing.
+-- The caller's list: what the walks of `write_entries` and `flatten` cite, and the laws of `flatten_to`. Assumes nothing.
 use Prim.Native.Nat.{ℕ, zero, suc, ◌+◌, ◌≤◌, ◌<◌}
 use native.Mathlib.Nat.{not-suc-le-zero, le_of_suc-le-suc}
 use native.Mathlib.Numerals.{add-one}

@@ -1,6 +1,6 @@
 -- What flattening hands on is the read of what it wrote: of the flattened ops, or of nothing where it was refused. Assumes nothing.
 use mathlib.Core.Path.{◌≡◌, ◌∙◌, refl, ap, sym}
-use mathlib.Core.Bool.{Bool, true, false}
+use mathlib.Core.Bool.{false}
 use mathlib.Core.List.{List, []}
 use Prim.Native.Nat.{ℕ, ◌≤◌}
 use native.Mathlib.Omega.{arith}

@@ -15,7 +15,6 @@ use Rattle.machine_model.specs.Step.{enter}
 use Rattle.machine_model.specs.Formed.{Each}
 use Rattle.machine_model.proofs.Each.{each_to, each_set, each_get_or, each_replicate}
 use Rattle.flattening.specs.Flatten.{Note, Numbered, named, has, fresh, number}
-use Rattle.flattening.specs.Flatten.Note.{opens}
 use Rattle.flattening.specs.Flatten.Numbered.{stray, numbered}
 use Rattle.flattening.specs.Scope.{row_note, row_notes, row_marks, leaving_of, here_of, new_of, open_after, body_after, listed, told}
 use Rattle.flattening.specs.declared.numbering.Numbering.TheVariants.{Done}

@@ -1,12 +1,11 @@
 -- What joining hands on is the read of what it wrote: of the joined ops, or of nothing where it was refused. Assumes nothing.
 use mathlib.Core.Path.{◌≡◌, ◌∙◌, refl, ap, sym}
-use mathlib.Core.Bool.{true, false}
 use mathlib.Core.List.{List, []}
 use Prim.Native.Nat.{ℕ, ◌≤◌}
 use native.Mathlib.Omega.{arith}
 use lib.Dec.{ltb}
 use lib.ListN.{length, take, drop, length-append}
-use lib.Seq.{take_at, length-take-le}
+use lib.Seq.{take_at}
 use borrow.Author.Tests.{le-ltb}
 use Rattle.basics.proofs.Tests.{by_case}
 use Rattle.byte_fields.specs.Storage.{fill}

@@ -1,5 +1,5 @@
 -- A float that is smaller in size than the divisor, which may be infinite, is its own remainder, and the patterns without the sign's bit tell it. Assumes nothing.
-use Rattle.std.proofs.Common.{◌≡◌, ℕ, zero, suc, ◌+◌, ◌*◌, ◌/◌, ◌%◌, ◌^◌, ◌<◌, ◌≤◌, Bool, true, false, not, T, leb, ℤ, sym, refl, ap, ◌∙◌, subst, ⊎_elim, le_trans, le_of_eq, lt_of_lt_of_le, le-add_right, mul-le-mul_right, mod-eq_of_lt, mul_assoc, mul-lt-mul_of_pos_right, mul-pos, div-add-mod', zero-mul, mul_right_comm, not-le_of_lt, arith, pow_pos, pow_mono, pow-add, shl_lt, ltb-false, le-ltb, lt-ltb, ne_eqb}
+use Rattle.std.proofs.Common.{◌≡◌, ℕ, zero, suc, ◌+◌, ◌*◌, ◌/◌, ◌%◌, ◌^◌, ◌<◌, ◌≤◌, Bool, true, not, T, leb, ℤ, sym, refl, ap, ◌∙◌, subst, ⊎_elim, le_trans, le_of_eq, lt_of_lt_of_le, le-add_right, mul-le-mul_right, mod-eq_of_lt, mul_assoc, mul-lt-mul_of_pos_right, mul-pos, div-add-mod', zero-mul, mul_right_comm, not-le_of_lt, arith, pow_pos, pow_mono, pow-add, shl_lt, ltb-false, le-ltb, lt-ltb, ne_eqb}
 use lib.Pow.{mod-mod-pow}
 use lib.Ieee.{Float, nan, inf, fin, binary64, of_fields, of_bits, nan_bits, fits, to_bits, is_nan, up, down, rem}
 use lib.Ieee.Bits.{nan_bits_is, nan_bits_above, of_bits-fits, to_bits-of_bits, is_false}

@@ -10,9 +10,12 @@ ghost use Rattle.machine.specs.Calls.{slices, fresh_call};
 ghost use Rattle.patch_check.specs.File.{check_of};
 ghost use Rattle.joining.specs.Joined.{join_of};
 ghost use Rattle.flattening.specs.Flattened.{flatten_of};
+ghost use Rattle.flattening.specs.Entries.{report_of, flatten_to};
 ghost use Rattle.linked.specs.Linked.{given, of_read, of_check, run, of_run, join, of_join, flatten, of_flatten};
 
 use crate::answer::tell;
+use flattening::body::Body;
+use flattening::export::Report;
 use machine::machine::Machine;
 
 mod answer; // what is written to `answer`
@@ -115,4 +118,15 @@ pub extern "C" fn feltcairn_flatten_numbers(
     let told = [number as u64, place as u64, length as u64, bodies as u64];
     tell(answer, &told);
     number
+}
+
+// Flattening with the entries in one list of structs, as `flattening::export` has it for Rattle: the number is in the report, with its place and what is
+// written.
+#[unsafe(no_mangle)]
+pub extern "C" fn feltcairn_flatten(bytes: &[u8], out: &mut [u8], bodies: &mut [Body]) -> Report
+    ensures report { result ≡ report_of (flatten_to bytes.now out.old bodies.old).answer }
+    ensures written { out.new ≡ (flatten_to bytes.now out.old bodies.old).out }
+    ensures entries { bodies.new ≡ (flatten_to bytes.now out.old bodies.old).bodies }
+{
+    flattening::export::feltcairn_flatten(bytes, out, bodies)
 }

@@ -1,5 +1,5 @@
 -- From the steps over a patch that is read to the public calls: "reads the patch first, then 37, then works". Assumes nothing.
-use mathlib.Core.Path.{◌≡◌, ◌∙◌, refl, ap, sym, subst}
+use mathlib.Core.Path.{◌≡◌, ◌∙◌, refl, ap, sym}
 use mathlib.Core.Bool.{Bool, true, false, not}
 use mathlib.Core.List.{List, [], ◌∷◌, map}
 use Prim.Native.Nat.{ℕ, ◌+◌, ◌-◌, ◌≤◌}
@@ -17,13 +17,13 @@ use Rattle.file_laws.proofs.Items.{few_items}
 use Rattle.file_laws.proofs.Loaded.{number_is, good_file, bad_file, bad_place, part_is}
 use Rattle.partners.specs.Columns.{partners_of, turns_of, functions_of, fill_end}
 use Rattle.partners.proofs.Lent.{few_functions, start_lent, end_lent, many_partners, many_turns}
-use Rattle.busy.specs.Sums.{most_steps, allowed, sum, adds_up}
+use Rattle.busy.specs.Sums.{most_steps, allowed, adds_up}
 use Rattle.busy.specs.Tally.{run_counts}
 use Rattle.busy.proofs.SumLaws.{adds, zeros_added}
-use Rattle.machine_step.specs.Held.{Held, Code, code}
+use Rattle.machine_step.specs.Held.{Code, code}
 use Rattle.bridge.specs.View.{view}
 use Rattle.bridge.specs.Decoded.{code_of, given_to}
-use Rattle.bridge.specs.Run.{Ran, ran, run_laid, run_of, run_counts_of}
+use Rattle.bridge.specs.Run.{Ran, run_laid, run_of, run_counts_of}
 use Rattle.bridge.proofs.Decoded.{Bytes, many_rows}
 use Rattle.bridge.proofs.Runs.{run_laid_lem, run_counts_lem}
 use Rattle.states.specs.Zeros.{zeroed}
@@ -31,7 +31,7 @@ use Rattle.states.specs.Formed.{has_room, is_mode, can_start, in_limits, in_plac
 use Rattle.states.proofs.WellFormed.{formed_fits}
 use Rattle.machine.specs.Fresh.{fresh_of}
 use Rattle.machine_run.specs.Ready.{IsLoaded, IsRead, ReadyToRun, ReadyToCount}
-use Rattle.machine.specs.Calls.{Slices, slices, Tallied, tallied, lent, Ended, ended, is_state, tally_run, run_call, can_begin, fresh_on, fresh_call}
+use Rattle.machine.specs.Calls.{Slices, slices, Tallied, tallied, lent, ended, tally_run, run_call, fresh_on, fresh_call}
 use Rattle.machine.specs.declared.machine.Machine.{Machine}
 
 -- the fresh machine is a state of every patch, where its mode is known and there is room

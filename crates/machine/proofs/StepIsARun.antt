@@ -6,7 +6,6 @@ use Prim.Native.Nat.{ℕ, ◌+◌}
 use native.Mathlib.Nat.{add-zero}
 use native.Mathlib.Omega.{arith}
 use lib.Dec.{leb, eqb}
-use lib.ListN.{length}
 use borrow.Author.Tests.{eq-eqb, ne_eqb, leb-true, leb-false}
 use Rattle.basics.proofs.Tests.{by_case}
 use Rattle.ops.specs.Patch.{patch_of}
@@ -19,9 +18,8 @@ use Rattle.busy.specs.Sums.{most_steps, allowed}
 use Rattle.busy.specs.Tally.{drive_counts, run_counts}
 use Rattle.machine_step.specs.Held.{Held}
 use Rattle.bridge.specs.View.{view, lay}
-use Rattle.bridge.specs.Decoded.{code_of, given_to}
+use Rattle.bridge.specs.Decoded.{given_to}
 use Rattle.bridge.specs.Run.{passed_in, drive_laid, run_laid}
-use Rattle.states.specs.Formed.{is_formed}
 use Rattle.machine.specs.Calls.{Tallied, tallied, Shown, shown, Ended, ended, is_state, shown_of, step_laid, tally_run, step_call, run_call}
 
 -- what a step shows of such a run: its answer where it made no step, else that it went on

@@ -1,5 +1,5 @@
 -- The public calls: what each answers, and all that it leaves, through the model's step and run on what is seen of the machine. Assumes nothing.
-use Rattle.std.specs.Prelude.{Bool, cond, ◌&&◌, List, ℕ, suc, ◌+◌, length, leb, eqb}
+use Rattle.std.specs.Prelude.{Bool, cond, ◌&&◌, List, ℕ, ◌+◌, length, leb, eqb}
 use Rattle.basics.specs.Limits as limit
 use Rattle.ops.specs.Patch.{patch_of}
 use Rattle.answers.specs.declared.run.Answer.{Answer}

@@ -2,13 +2,12 @@
 -- that holds every one is that list. Assumes nothing.
 use Prim.Native.Nat.{ℕ, zero, suc, ◌+◌, ◌≤◌, ◌<◌}
 use native.Mathlib.Omega.{arith}
-use native.Mathlib.Nat.{sub-zero}
-use borrow.Author.Tests.{ltb-true, lt-ltb, le-ltb, eq-eqb, ne_eqb}
+use borrow.Author.Tests.{ltb-true, le-ltb, eq-eqb, ne_eqb}
 use mathlib.Core.Path.{◌≡◌, refl, ap, sym, subst, ◌∙◌}
 use mathlib.Core.Bool.{Bool, true, false, ◌&&◌}
 use mathlib.Core.List.{List, [], ◌∷◌}
-use mathlib.Core.Logic.{◌⊎◌, inl, inr}
-use mathlib.Core.Option.{Option, none, some}
+use mathlib.Core.Logic.{inl, inr}
+use mathlib.Core.Option.{some}
 use lib.Dec.{ltb, eqb}
 use lib.ListN.{length, get_or}
 use Rattle.basics.proofs.Clash.{clash}
@@ -20,7 +19,7 @@ use Rattle.machine_model.specs.Step.{pick, routine, enter}
 use Rattle.machine_model.specs.Formed.{Each, Rising}
 use Rattle.machine_model.specs.Modes.{In}
 use Rattle.machine_model.proofs.Each.{each_at, each_to}
-use Rattle.machine_model.proofs.Scans.{functions_at, kth_is, nth, nth_inside, nth_outside, kth_nth}
+use Rattle.machine_model.proofs.Scans.{functions_at, kth_is, nth, nth_inside, kth_nth}
 
 -- ---- a mark of the patch
 

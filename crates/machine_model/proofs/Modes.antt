@@ -1,9 +1,8 @@
 -- 02, ask 4: a Call by mark goes after the k-th mark of the patch, whatever has run; and where the table holds every mark the modes agree, in a step and
 -- in a run. Assumes nothing.
-use Prim.Native.Nat.{ℕ, zero, suc, ◌≤◌, ◌<◌}
-use native.Mathlib.Omega.{arith}
-use borrow.Author.Tests.{leb-true, leb-false, ltb-true, ltb-false, ne_eqb}
-use mathlib.Core.Path.{◌≡◌, refl, ap, sym, subst, ◌∙◌}
+use Prim.Native.Nat.{ℕ, zero, suc, ◌≤◌}
+use borrow.Author.Tests.{leb-true, leb-false, ltb-true, ltb-false}
+use mathlib.Core.Path.{◌≡◌, refl, ap, sym, ◌∙◌}
 use mathlib.Core.Bool.{Bool, true, false, cond}
 use mathlib.Core.List.{List, [], ◌∷◌, reverse}
 use mathlib.Core.Option.{Option, none, some}
@@ -17,11 +16,10 @@ use Rattle.ops.specs.Syntax.Plain.{comment, store, move, swap, locate, offset, d
 use Rattle.ops.specs.Syntax.Op.{control, set, load, plain}
 use Rattle.machine_model.specs.State.{State, Given, by_mark, lane0, go_to, on, with_table}
 use Rattle.machine_model.specs.Scan.{op_at, brackets, to_open, marks}
-use Rattle.machine_model.specs.Step.{Outcome, enter, jump, end_of, else_of, routine, found, back, again, turn, act, exec, op, pick, step}
+use Rattle.machine_model.specs.Step.{Outcome, enter, jump, end_of, else_of, routine, found, back, again, turn, act, exec, op, step}
 use Rattle.machine_model.specs.Step.Outcome.{finished, refused, next}
 use Rattle.machine_model.specs.Passed.{passed}
 use Rattle.machine_model.specs.Run.{drive, run}
-use Rattle.machine_model.specs.Formed.{Marked}
 use Rattle.machine_model.specs.Modes.{In, HoldsMarks, CallsMark, in_mode}
 use Rattle.machine_model.proofs.Scans.{nth, nth_inside, nth_outside}
 use Rattle.machine_model.proofs.Meant.{routine_is, by_mark_nth, full_nth, full_table, mark_in, each_in, entry_stays}

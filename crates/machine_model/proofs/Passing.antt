@@ -15,7 +15,7 @@ use Rattle.ops.specs.Syntax.Plain.{comment, store, move, swap, locate, offset, d
 use Rattle.ops.specs.Syntax.Op.{control, set, load, plain}
 use Rattle.machine_model.specs.State.{State, Given, go_to, on}
 use Rattle.machine_model.specs.Scan.{op_at}
-use Rattle.machine_model.specs.Step.{Outcome, lack, pick, act, exec, op, step}
+use Rattle.machine_model.specs.Step.{lack, pick, act, exec, op, step}
 use Rattle.machine_model.specs.Step.Outcome.{next}
 use Rattle.machine_model.specs.Passed.{is_comment_of, is_comment, comments, past, passed}
 

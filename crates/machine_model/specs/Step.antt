@@ -72,7 +72,7 @@ unfoldable pub routine : ℕ → List ℕ → List Op → ℕ → Option ℕ
 unfolding kth
 routine mode table os k = pick (eqb mode rust_table && ltb k (length table)) (some (get_or table k 0)) (kth 0 k (functions os))
 
--- it is "entered in the table", where an entry of the table stands already (`entry-stays`, proofs/Meant.antt); 29 where there is none
+-- it is "entered in the table", where an entry of the table stands already (`entry_stays`, proofs/Meant.antt); 29 where there is none
 abbrev pub found : State → Option ℕ → Outcome
 found s none = refused 29 0
 found s (some m) = next (with_table (called s m) (enter m s.table))
@@ -142,7 +142,7 @@ move_by s m true = bar (ltb s.pointer (2 ^ 64 - m)) 24 (next (on (with_pointer s
 move_by s m false = bar (ltb farthest (s.pointer + m)) 25 (next (on (with_pointer s (s.pointer + m))))
 
 -- 02, ask 12: "let Alloc test for zero only". This corrects 01's "length under 30,000 grows by 30,000"; on a well-formed state's length the two
--- are one: `stock-as-before` (proofs/Lengths.antt)
+-- are one: `stock_as_before` (proofs/Lengths.antt)
 abbrev pub grown : ℕ → ℕ
 grown n = cond (eqb n 0) first_block n
 

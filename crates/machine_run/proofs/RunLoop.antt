@@ -19,7 +19,6 @@ use Rattle.answers.specs.declared.run.Answer.TheVariants.{Finished, Spent, Refus
 use Rattle.ops.specs.Patch.{patch_of}
 use Rattle.file_laws.proofs.Items.{few_items}
 use Rattle.machine_model.specs.Step.{Outcome, step}
-use Rattle.machine_model.specs.Step.Outcome.{next}
 use Rattle.machine_model.proofs.Passing.{past_on, past_here, bits_beyond}
 use Rattle.partners.specs.Columns.{Stored}
 use Rattle.machine_numbers.specs.declared.numbers.Numbers.{Numbers}

@@ -1,4 +1,4 @@
--- What stands at any byte of a file of any length, by 01's tests: the laws of `recordFrom`. Assumes nothing.
+-- What stands at any byte of a file of any length, by 01's tests: the laws of `record_from`. Assumes nothing.
 use mathlib.Core.Path.{◌≡◌}
 use mathlib.Core.List.{List}
 use Prim.Native.Nat.{ℕ, ◌+◌, ◌<◌, ◌≤◌}

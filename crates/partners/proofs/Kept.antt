@@ -4,7 +4,7 @@ use mathlib.Core.Path.{◌≡◌, ◌∙◌, refl, ap, sym, subst}
 use mathlib.Core.Bool.{true, false}
 use mathlib.Core.List.{List, [], ◌∷◌, map, reverse}
 use mathlib.Core.Option.{Option, none, some}
-use Prim.Native.Nat.{ℕ, zero, suc, ◌+◌, ◌-◌, ◌≤◌, ◌<◌}
+use Prim.Native.Nat.{ℕ, suc, ◌+◌, ◌-◌, ◌≤◌, ◌<◌}
 use native.Mathlib.Omega.{arith}
 use native.Mathlib.Numerals.{add-one}
 use lib.Dec.{leb, ltb, eqb}
@@ -23,7 +23,7 @@ use Rattle.basics.specs.Pick.{pick}
 use Rattle.partners.specs.Columns.{row_bracket, nowhere, place, to_mid, partner_by, partner_at, turn_at, partners_of, turns_of}
 use Rattle.partners.specs.Pass.{Pass, passed, opened, pair_of, left_of, pass_of}
 use Rattle.partners.proofs.Pairs.{opens_there, end_is, ends_there, opener_is, opener_before}
-use Rattle.partners.proofs.Frames.{Counts, end_counts, mid_counts, Framed, framed_none, framed_up, framed_low, framed_flat, framed_past, framed_mid, framed_down, Filled, filled_none, filled_by, filled_at, filled_skip, filled_on, filled_all, get_d_replicate}
+use Rattle.partners.proofs.Frames.{end_counts, mid_counts, Framed, framed_none, framed_up, framed_low, framed_flat, framed_past, framed_mid, framed_down, Filled, filled_none, filled_by, filled_at, filled_skip, filled_on, filled_all, get_d_replicate}
 
 -- ---- the column so far
 

@@ -2,7 +2,6 @@
 use mathlib.Core.Path.{◌≡◌, ◌∙◌, refl, ap, sym, subst}
 use mathlib.Core.Bool.{Bool, true, false}
 use mathlib.Core.List.{List, [], ◌∷◌, ◌++◌, map}
-use mathlib.Core.Option.{Option, none, some}
 use Prim.Native.Nat.{ℕ, zero, suc, ◌+◌, ◌-◌, ◌≤◌, ◌<◌}
 use native.Mathlib.Omega.{arith}
 use native.Mathlib.Nat.{sub-zero}
@@ -10,14 +9,13 @@ use lib.Dec.{leb, eqb}
 use lib.ListN.{length, get_or, set, take, drop, length-append, length-map, get_or-map, drop_of_length-le}
 use lib.Seq.{drop-cons, take_all, length-take-le}
 use borrow.Author.Tests.{leb-true, leb-false, eqb-true}
-use Rattle.basics.specs.Limits.{most_marks}
 use Rattle.basics.specs.Pick.{pick}
 use Rattle.basics.proofs.Tests.{by_case}
-use Rattle.machine_model.specs.Scan.{kth, places_from}
+use Rattle.machine_model.specs.Scan.{places_from}
 use Rattle.machine_model.specs.Limited.{count}
 use Rattle.machine_model.proofs.Scans.{nth_inside, nth_outside, kth_nth}
 use Rattle.partners.specs.Columns.{row_function, place, mark_of, functions_of, fill_end, nth_of}
-use Rattle.partners.specs.Pass.{Entered, entered, entered_of}
+use Rattle.partners.specs.Pass.{Entered, entered_of}
 
 -- ---- the k-th of them
 

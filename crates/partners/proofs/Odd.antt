@@ -31,7 +31,7 @@ abbrev cases : List Case
 cases =
     -- nothing
     case [] [] [] []
-    -- `comment, call, return, store, standardCall`: ops that are no brackets
+    -- `comment, call, return, store, standard_call`: ops that are no brackets
     ∷ case (0 ∷ 3 ∷ 4 ∷ 9 ∷ 61 ∷ []) (no ∷ no ∷ no ∷ no ∷ no ∷ []) (no ∷ no ∷ no ∷ no ∷ no ∷ []) []
     -- `end`: one stray End
     ∷ case (8 ∷ []) (no ∷ []) (no ∷ []) []

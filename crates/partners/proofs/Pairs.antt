@@ -1,6 +1,6 @@
 -- The search forward from an op and the search back from an End are each other's inverse, in any patch; and what the two searches forward
 -- say of an Else. The whole patch is `reverse_aux r ms`: r the marks before a place, the nearest first, and ms those from it on. Assumes nothing.
-use mathlib.Core.Path.{◌≡◌, ◌∙◌, refl, ap, sym, subst}
+use mathlib.Core.Path.{◌≡◌, ◌∙◌, refl, ap, sym}
 use mathlib.Core.List.{List, [], ◌∷◌, ◌++◌, reverse, reverse_aux}
 use mathlib.Core.Option.{Option, none, some}
 use Prim.Native.Nat.{ℕ, zero, suc, ◌+◌, ◌≤◌, ◌<◌}

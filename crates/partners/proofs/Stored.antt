@@ -1,19 +1,16 @@
 -- The places in the columns are those that the searches of 01-scope.md find, for every list of ops, whether it passes the check or not.
 -- Assumes nothing.
 use mathlib.Core.Path.{◌≡◌, ◌∙◌, refl, ap, sym}
-use mathlib.Core.Bool.{true, false}
-use mathlib.Core.List.{List, map, reverse}
+use mathlib.Core.List.{List, map}
 use mathlib.Core.Option.{Option, none, some}
 use Prim.Native.Nat.{ℕ, suc, ◌+◌, ◌≤◌, ◌<◌}
 use native.Mathlib.Omega.{arith}
 use native.Mathlib.Numerals.{add-one}
-use lib.Dec.{eqb}
-use lib.ListN.{length, get_or, take, drop, length-map, length-drop}
+use lib.ListN.{length, get_or, drop, length-map, length-drop}
 use borrow.Author.Tests.{ne_eqb}
 use Rattle.basics.specs.Pick.{pick}
 use Rattle.ops.specs.Syntax.{Bracket}
-use Rattle.ops.specs.Syntax.Bracket.{up, down, mid, flat}
-use Rattle.machine_model.specs.Scan.{to_end, to_else, to_open}
+use Rattle.machine_model.specs.Scan.{to_end}
 use Rattle.partners.specs.Columns.{row_bracket, nowhere, place, end_of, else_of, open_of, to_mid, partner_by, partner_at, turn_at, partners_of, turns_of, Places, first_of}
 use Rattle.partners.proofs.Pairs.{either, else_or_end, mid_below}
 use Rattle.partners.proofs.Frames.{length_column, get_or_column}

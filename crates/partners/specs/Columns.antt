@@ -1,7 +1,7 @@
 -- The columns that a patch keeps beside its ops. 02, ask 7: "Find each bracket's partner, an If's Else and an Else's End, when the patch is
 -- read, and keep them. .. A bracket without one holds 'none'." Each place is what the search of 01-scope.md finds from that op, in a patch
 -- that passes the check or not. Assumes nothing.
-use Rattle.std.specs.Prelude.{Bool, true, false, ◌≡◌, List, [], ◌∷◌, ◌++◌, map, reverse, ℕ, zero, suc, ◌+◌, ◌-◌, length, get_or, take, drop, leb, eqb}
+use Rattle.std.specs.Prelude.{Bool, ◌≡◌, List, [], ◌∷◌, ◌++◌, map, reverse, ℕ, zero, suc, ◌-◌, length, get_or, take, drop, leb, eqb}
 use Rattle.std.proofs.Math.Option.{Option, none, some}
 use Rattle.basics.specs.Pick.{pick}
 use Rattle.kind_table.specs.Rows as row

@@ -83,7 +83,7 @@ Said s k₀ c₀ e₀ p₀ k c e p r =
       rows_after : k ≡ fill (map row_in (patch_of s).items) k₀;
       counts_after : c ≡ fill (map count_in (patch_of s).items) c₀;
       needs_after : e ≡ fill (map need_in (patch_of s).items) e₀;
-      payloads_after : p ≡ fill (map payload_in (patch_of s).items) p₀
+      payloads_after : p ≡ fill (map payload_in (patch_of s).items) p₀;
     }
 
 -- a run of an op needs no more lanes than it may count

@@ -8,6 +8,8 @@ use answers::run::{number_of, place_of};
 use busy::busiest::{Busy, busiest};
 use machine::machine::Machine;
 use patch_reader::reader::read_patch;
+use std::env::FillError;
+use std::rt::Env;
 use streams::part::of_lanes;
 use streams::print::{end_line, lanes, number};
 
@@ -92,10 +94,16 @@ fn check_and_run(file: &[u8], mode: u32) {
 // The one argument that the runner takes.
 const WORD: [u8; 9] = *b"--by-mark";
 
+// Whether there is an argument of this number; the program's name is argument 0.
+fn has_argument(rt: &HostRuntime, n: usize) -> bool {
+    let mut start = [0u8; 1];
+    !matches!(rt.arg(n, &mut start), Err(FillError::NotPresent))
+}
+
 // Whether the first argument is that word.
-fn is_by_mark() -> bool {
+fn is_by_mark(rt: &HostRuntime) -> bool {
     let mut word = [0u8; 9];
-    if os::arg(1, &mut word) != 9 {
+    if rt.arg(1, &mut word).unwrap_or(0) != 9 {
         return false;
     }
     let mut i: usize = 0;
@@ -116,12 +124,11 @@ enum Asked {
 }
 
 // With no argument the Rust's mode, with the word the other.
-fn mode_asked() -> Asked {
-    let n = os::arg_count();
-    if n <= 1 {
+fn mode_asked(rt: &HostRuntime) -> Asked {
+    if !has_argument(rt, 1) {
         return Asked::Mode(Machine::RUST_TABLE);
     }
-    if n == 2 && is_by_mark() {
+    if !has_argument(rt, 2) && is_by_mark(rt) {
         return Asked::Mode(Machine::BY_MARK);
     }
     Asked::Unknown
@@ -134,8 +141,8 @@ fn read_and_run(mode: u32) {
     check_and_run(&file[..n], mode);
 }
 
-fn main() {
-    match mode_asked() {
+fn main(rt: HostRuntime) {
+    match mode_asked(&rt) {
         Asked::Mode(mode) => read_and_run(mode),
         Asked::Unknown => {
             io::write_all(2, b"runner: it takes no argument but --by-mark\n");

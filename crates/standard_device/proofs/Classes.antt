@@ -1,5 +1,5 @@
 -- Which floats the cases of `Root` are, as lib.Ieee reads the patterns: the zeros, infinity, a NaN or what is negative, and what is positive and finite
--- (`steps-value` of Laws.antt, with `steps_pos`). Assumes nothing.
+-- (`steps_value` of Laws.antt, with `steps_pos`). Assumes nothing.
 use mathlib.Core.Path.{◌≡◌, refl, ◌∙◌, ap, sym, subst}
 use mathlib.Core.Bool.{Bool, true, false, cond}
 use mathlib.Core.Logic.{◌⊎◌, inl, inr, ⊎_elim}

@@ -1,4 +1,4 @@
--- The root that `rootRule` computes is the nearest float, no other is, and no tie is met. Assumes nothing.
+-- The root that `root_rule` computes is the nearest float, no other is, and no tie is met. Assumes nothing.
 use mathlib.Core.Path.{◌≡◌, refl, sym, ◌∙◌, ap, subst}
 use mathlib.Core.Bool.{Bool, true, false, cond}
 use mathlib.Core.Logic.{◌⊎◌, inl, inr, ⊎_elim}

@@ -1,4 +1,4 @@
--- What 37 tests is 01's well-formed state: a computed `isFormed` is true exactly where what is held fits the patch. Assumes nothing.
+-- What 37 tests is 01's well-formed state: a computed `is_formed` is true exactly where what is held fits the patch. Assumes nothing.
 use mathlib.Core.Path.{◌≡◌, ◌∙◌, refl, ap, sym}
 use mathlib.Core.Bool.{Bool, true, false, ◌&&◌}
 use mathlib.Core.List.{List, [], ◌∷◌, map}

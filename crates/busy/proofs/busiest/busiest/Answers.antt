@@ -1,9 +1,8 @@
 -- `busy::busiest::busiest` meets its contract. Assumes nothing.
-use Prim.Native.Nat.{◌+◌, ◌≤◌, ◌-◌}
+use Prim.Native.Nat.{◌+◌, ◌-◌}
 use mathlib.Core.Path.{◌≡◌, refl}
 use native.Mathlib.Omega.{arith}
-use lib.ListN.{length, take, drop}
-use Rattle.busy.specs.Busiest.{blanks, listed, unlisted, ranked}
+use Rattle.busy.specs.Busiest.{blanks, listed, unlisted}
 use Rattle.busy.proofs.Insertion.{rank_start, rank_on, rank_end}
 use borrow.Author.Rules.{rules}
 use Rattle.busy.proofs.busiest.busiest.Goals as goal

@@ -1,11 +1,8 @@
 -- `busy::busiest::busiest` meets its contract. Assumes nothing.
-use Prim.Native.Nat.{◌+◌, ◌≤◌, ◌-◌}
-use mathlib.Core.Path.{◌≡◌, refl}
-use native.Mathlib.Omega.{arith}
+use Prim.Native.Nat.{◌≤◌, ◌-◌}
+use mathlib.Core.Path.{◌≡◌}
 use lib.ListN.{length, take, drop}
 use Rattle.busy.specs.Busiest.{blanks, listed, unlisted, ranked}
-use Rattle.busy.proofs.Insertion.{rank_start, rank_on, rank_end}
-use borrow.Author.Rules.{rules}
 use Rattle.busy.proofs.busiest.busiest.Given as goal
 
 abbrev pub invariant-loop-i : goal.invariant-loop-i

@@ -1,10 +1,10 @@
 -- `busy::busiest::put` meets its contract. Assumes nothing.
-use Prim.Native.Nat.{◌≤◌, ◌-◌}
+use Prim.Native.Nat.{◌≤◌}
 use mathlib.Core.Path.{◌≡◌, ◌∙◌}
 use native.Mathlib.Omega.{arith}
-use lib.ListN.{length, take, drop, length-set}
-use Rattle.busy.specs.Busiest.{insert, blanks, listed, unlisted}
-use Rattle.busy.proofs.Insertion.{sifted, sift_start, sift_on, sift_full, sift_more, blank_on, blank_more}
+use lib.ListN.{length, length-set}
+use Rattle.busy.specs.Busiest.{listed, unlisted}
+use Rattle.busy.proofs.Insertion.{sift_start, sift_on, sift_full, sift_more, blank_on, blank_more}
 use borrow.Author.Rules.{rules}
 use Rattle.busy.proofs.busiest.put.Goals as goal
 

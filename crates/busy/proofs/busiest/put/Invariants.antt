@@ -1,11 +1,9 @@
 -- `busy::busiest::put` meets its contract. Assumes nothing.
 use Prim.Native.Nat.{◌≤◌, ◌-◌}
-use mathlib.Core.Path.{◌≡◌, ◌∙◌}
-use native.Mathlib.Omega.{arith}
-use lib.ListN.{length, take, drop, length-set}
-use Rattle.busy.specs.Busiest.{insert, blanks, listed, unlisted}
-use Rattle.busy.proofs.Insertion.{sifted, sift_start, sift_on, sift_full, sift_more, blank_on, blank_more}
-use borrow.Author.Rules.{rules}
+use mathlib.Core.Path.{◌≡◌}
+use lib.ListN.{length, take, drop}
+use Rattle.busy.specs.Busiest.{insert, blanks}
+use Rattle.busy.proofs.Insertion.{sifted}
 use Rattle.busy.proofs.busiest.put.Given as goal
 
 abbrev pub invariant-loop-i : goal.invariant-loop-i

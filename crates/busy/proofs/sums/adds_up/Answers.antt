@@ -1,11 +1,11 @@
 -- `busy::sums::adds_up` meets its contract. Assumes nothing.
-use Prim.Native.Nat.{◌+◌, ◌≤◌, ◌<◌, ◌-◌}
-use mathlib.Core.Path.{◌≡◌, ◌∙◌, sym}
+use Prim.Native.Nat.{◌+◌, ◌<◌}
+use mathlib.Core.Path.{◌∙◌, sym}
 use native.Mathlib.Omega.{arith}
-use borrow.Author.Tests.{ne_eqb, eq-eqb, lt-leb, not-true, not-false}
-use lib.ListN.{length, get_or}
-use Rattle.busy.specs.Sums.{most_steps, adds_up}
-use Rattle.busy.proofs.Adding.{adds_from, adds_end, adds_not, adds_over, adds_on, adds_start}
+use borrow.Author.Tests.{ne_eqb, eq-eqb, lt-leb}
+use lib.ListN.{get_or}
+use Rattle.busy.specs.Sums.{adds_up}
+use Rattle.busy.proofs.Adding.{adds_end, adds_not, adds_over, adds_on, adds_start}
 use borrow.Author.Rules.{rules}
 use Rattle.busy.proofs.sums.adds_up.Goals as goal
 

@@ -1,12 +1,9 @@
 -- `busy::sums::adds_up` meets its contract. Assumes nothing.
-use Prim.Native.Nat.{◌+◌, ◌≤◌, ◌<◌, ◌-◌}
-use mathlib.Core.Path.{◌≡◌, ◌∙◌, sym}
-use native.Mathlib.Omega.{arith}
-use borrow.Author.Tests.{ne_eqb, eq-eqb, lt-leb, not-true, not-false}
-use lib.ListN.{length, get_or}
+use Prim.Native.Nat.{◌≤◌, ◌-◌}
+use mathlib.Core.Path.{◌≡◌}
+use lib.ListN.{length}
 use Rattle.busy.specs.Sums.{most_steps, adds_up}
-use Rattle.busy.proofs.Adding.{adds_from, adds_end, adds_not, adds_over, adds_on, adds_start}
-use borrow.Author.Rules.{rules}
+use Rattle.busy.proofs.Adding.{adds_from}
 use Rattle.busy.proofs.sums.adds_up.Given as goal
 
 abbrev pub invariant-loop-i : goal.invariant-loop-i

@@ -1,12 +1,9 @@
 -- `byte_fields::read::read_values` meets its contract. Assumes nothing.
-use Prim.Native.Nat.{◌≤◌, ◌<◌, ◌-◌}
-use mathlib.Core.Path.{◌≡◌, ◌∙◌, refl}
-use native.Mathlib.Omega.{arith}
-use lib.ListN.{length, length-set}
+use Prim.Native.Nat.{◌≤◌, ◌-◌}
+use mathlib.Core.Path.{◌≡◌}
+use lib.ListN.{length}
 use Rattle.byte_fields.specs.Bytes.{values_at}
 use Rattle.byte_fields.specs.Storage.{fill}
-use Rattle.byte_fields.proofs.ValuesAt.{values_more}
-use borrow.Author.Rules.{rules}
 use Rattle.byte_fields.proofs.read.read_values.Given as goal
 
 abbrev pub invariant-loop-i : goal.invariant-loop-i

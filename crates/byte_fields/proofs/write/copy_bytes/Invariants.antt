@@ -1,13 +1,9 @@
 -- `byte_fields::write::copy_bytes` meets its contract. Assumes nothing.
-use Prim.Native.Nat.{◌+◌, ◌≤◌, ◌<◌, ◌-◌}
-use mathlib.Core.Path.{◌≡◌, ◌∙◌, refl}
-use native.Mathlib.Omega.{arith}
-use lib.ListN.{length, length-set}
+use Prim.Native.Nat.{◌≤◌, ◌-◌}
+use mathlib.Core.Path.{◌≡◌}
+use lib.ListN.{length}
 use Rattle.byte_fields.specs.Bytes.{text_at}
 use Rattle.byte_fields.specs.Storage.{placed}
-use Rattle.byte_fields.proofs.Storage.{placed_none}
-use Rattle.byte_fields.proofs.TextAt.{text_more}
-use borrow.Author.Rules.{rules}
 use Rattle.byte_fields.proofs.write.copy_bytes.Given as goal
 
 abbrev pub invariant-loop-i : goal.invariant-loop-i

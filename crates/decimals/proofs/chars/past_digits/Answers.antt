@@ -1,6 +1,5 @@
 -- `decimals::chars::past_digits` meets its contract. Assumes nothing.
-use Rattle.std.proofs.Common.{◌≡◌, ◌-◌, length, refl, rules}
-use Rattle.decimals.specs.Chars.{is_digit, past}
+use Rattle.std.proofs.Common.{refl}
 use Rattle.decimals.proofs.Ends.{ended, stopped, further}
 use Rattle.decimals.proofs.chars.past_digits.Goals as goal
 

@@ -1,7 +1,6 @@
 -- `decimals::chars::past_digits` meets its contract. Assumes nothing.
-use Rattle.std.proofs.Common.{◌≡◌, ◌-◌, length, refl, rules}
+use Rattle.std.proofs.Common.{◌≡◌, ◌-◌, length}
 use Rattle.decimals.specs.Chars.{is_digit, past}
-use Rattle.decimals.proofs.Ends.{ended, stopped, further}
 use Rattle.decimals.proofs.chars.past_digits.Given as goal
 
 abbrev pub invariant-loop-i : goal.invariant-loop-i

@@ -1,6 +1,5 @@
 -- `decimals::chars::past_spaces` meets its contract. Assumes nothing.
-use Rattle.std.proofs.Common.{◌≡◌, ◌-◌, length, refl, rules}
-use Rattle.decimals.specs.Chars.{is_space, past}
+use Rattle.std.proofs.Common.{refl}
 use Rattle.decimals.proofs.Ends.{ended, stopped, further}
 use Rattle.decimals.proofs.chars.past_spaces.Goals as goal
 

@@ -1,7 +1,6 @@
 -- `decimals::chars::past_spaces` meets its contract. Assumes nothing.
-use Rattle.std.proofs.Common.{◌≡◌, ◌-◌, length, refl, rules}
+use Rattle.std.proofs.Common.{◌≡◌, ◌-◌, length}
 use Rattle.decimals.specs.Chars.{is_space, past}
-use Rattle.decimals.proofs.Ends.{ended, stopped, further}
 use Rattle.decimals.proofs.chars.past_spaces.Given as goal
 
 abbrev pub invariant-loop-i : goal.invariant-loop-i

@@ -1,7 +1,7 @@
 -- `decimals::float::number` meets its contract. Assumes nothing.
 use Rattle.std.proofs.Common.{ℕ, ◌+◌, ◌-◌, ◌*◌, ◌^◌, ◌<◌, ◌≤◌, arith, rules}
 use Rattle.decimals.proofs.Ends.{digit_least, digit_most}
-use Rattle.decimals.proofs.Reading.{Adding, begun, added, summed, room}
+use Rattle.decimals.proofs.Reading.{begun, added, summed, room}
 use borrow.Author.Rules.{rules}
 use Rattle.decimals.proofs.float.number.Goals as goal
 

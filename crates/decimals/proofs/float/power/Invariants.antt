@@ -1,7 +1,5 @@
 -- `decimals::float::power` meets its contract. Assumes nothing.
-use Rattle.std.proofs.Common.{◌≡◌, ℕ, ◌-◌, ◌*◌, ◌^◌, ◌<◌, ◌≤◌, refl, ap, ◌∙◌, arith, rules}
-use Rattle.decimals.proofs.Reading.{power_high, power_more}
-use borrow.Author.Rules.{rules}
+use Rattle.std.proofs.Common.{◌≡◌, ◌-◌, ◌^◌, ◌≤◌}
 use Rattle.decimals.proofs.float.power.Given as goal
 
 abbrev pub invariant-loop-i : goal.invariant-loop-i

@@ -1,5 +1,4 @@
 -- `decimals::float::quotient` meets its contract. Assumes nothing.
-use Rattle.std.proofs.Common.{rules}
 use Rattle.decimals.proofs.Quotients.{divided_number, divided_bits}
 use Rattle.decimals.proofs.float.quotient.Goals as goal
 

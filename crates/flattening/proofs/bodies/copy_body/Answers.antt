@@ -1,9 +1,9 @@
 -- `flattening::bodies::copy_body` meets its contract. Assumes nothing.
-use Prim.Native.Nat.{ℕ, ◌+◌, ◌-◌, ◌≤◌}
+use Prim.Native.Nat.{ℕ, ◌+◌, ◌≤◌}
 use mathlib.Core.Path.{◌≡◌, ap}
 use lib.ListN.{length}
 use native.Mathlib.Omega.{arith}
-use Rattle.flattening.proofs.Copying.{Copying, begin, head_fits, size_fits, part_fits, on, next_is, count_is, out_is}
+use Rattle.flattening.proofs.Copying.{begin, head_fits, size_fits, part_fits, on, next_is, count_is, out_is}
 use Rattle.flattening.proofs.bodies.copy_body.Goals as goal
 use Rattle.flattening.proofs.bodies.copy_body.Goals.{After-part_of-n}
 

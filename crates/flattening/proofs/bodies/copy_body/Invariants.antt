@@ -1,9 +1,7 @@
 -- `flattening::bodies::copy_body` meets its contract. Assumes nothing.
-use Prim.Native.Nat.{ℕ, ◌+◌, ◌-◌, ◌≤◌}
-use mathlib.Core.Path.{◌≡◌, ap}
+use Prim.Native.Nat.{◌-◌}
 use lib.ListN.{length}
-use native.Mathlib.Omega.{arith}
-use Rattle.flattening.proofs.Copying.{Copying, begin, head_fits, size_fits, part_fits, on, next_is, count_is, out_is}
+use Rattle.flattening.proofs.Copying.{Copying}
 use Rattle.flattening.proofs.bodies.copy_body.Given as goal
 
 abbrev pub invariant-loop-i : goal.invariant-loop-i

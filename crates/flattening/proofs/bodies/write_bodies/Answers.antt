@@ -1,12 +1,12 @@
 -- `flattening::bodies::write_bodies` meets its contract. Assumes nothing.
-use Prim.Native.Nat.{ℕ, ◌+◌, ◌-◌, ◌≤◌, ◌<◌}
+use Prim.Native.Nat.{ℕ, ◌+◌, ◌≤◌, ◌<◌}
 use mathlib.Core.Path.{◌≡◌, sym, ◌∙◌}
 use lib.ListN.{length}
 use native.Mathlib.Omega.{arith}
 use Rattle.flattening.specs.Flatten.{body, others}
 use Rattle.flattening.specs.Scope.{listed}
 use Rattle.flattening.specs.Flattened.{ops_in}
-use Rattle.flattening.proofs.Writing.{Writing, begin, over, bytes_fit, ops_few, entry_fits, on, count_is, main_fits, out_is, numbers_are, firsts_are, counts_are}
+use Rattle.flattening.proofs.Writing.{begin, over, bytes_fit, ops_few, entry_fits, on, count_is, main_fits, out_is, numbers_are, firsts_are, counts_are}
 use borrow.Author.Rules.{rules}
 use Rattle.flattening.proofs.bodies.write_bodies.Goals as goal
 use Rattle.flattening.proofs.bodies.write_bodies.Goals.{Else-wide_byte-eq0}

@@ -1,8 +1,8 @@
 -- `flattening::flatten::flatten` meets its contract. Assumes nothing.
-use Rattle.std.proofs.Common.{◌≡◌, ℕ, ◌≤◌, List, ap, sym, ◌∙◌, subst, length}
+use Rattle.std.proofs.Common.{ℕ, ◌≤◌, List, ap, sym, ◌∙◌, subst, length}
 use Rattle.answers.specs.declared.flatten.Flattened.{Flattened}
 use Rattle.flattening.specs.declared.body.Body.{Body}
-use Rattle.flattening.specs.Entries.{listing, flatten_to, entries_in, over}
+use Rattle.flattening.specs.Entries.{listing, entries_in, over}
 use Rattle.flattening.proofs.Entries.{list_made}
 use Rattle.flattening.proofs.flatten.flatten.Goals as goal
 

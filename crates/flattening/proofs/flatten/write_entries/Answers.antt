@@ -1,5 +1,5 @@
 -- `flattening::flatten::write_entries` meets its contract. Assumes nothing.
-use Rattle.std.proofs.Common.{arith, zero-le}
+use Rattle.std.proofs.Common.{arith}
 use Rattle.flattening.proofs.Entries.{over_none, over_more}
 use Rattle.flattening.proofs.flatten.write_entries.Goals as goal
 

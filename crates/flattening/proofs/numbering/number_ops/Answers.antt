@@ -1,9 +1,7 @@
 -- `flattening::numbering::number_ops` meets its contract. Assumes nothing.
-use Prim.Native.Nat.{◌-◌}
-use lib.ListN.{length}
 use mathlib.Core.Path.{◌∙◌, ap}
 use Rattle.flattening.specs.Scope.{new_of}
-use Rattle.flattening.proofs.NumberingLoop.{Scoped, begin, stray_end_lem, next, done}
+use Rattle.flattening.proofs.NumberingLoop.{begin, stray_end_lem, next, done}
 use Rattle.flattening.proofs.numbering.number_ops.Goals as goal
 
 pub loop-i-init : goal.loop-i-init

@@ -1,11 +1,8 @@
 -- `flattening::numbers::count_marks` meets its contract. Assumes nothing.
 use Prim.Native.Nat.{◌-◌, ◌+◌, ◌≤◌}
-use mathlib.Core.Path.{◌≡◌, ◌∙◌, ap}
-use Rattle.ops.specs.Patch.{mark_of}
+use mathlib.Core.Path.{◌≡◌}
 use lib.ListN.{length, drop}
-use native.Mathlib.Omega.{arith}
 use Rattle.flattening.specs.Scope.{row_marks}
-use Rattle.flattening.proofs.NumberingLoop.{marks_at, marks_end}
 use Rattle.flattening.proofs.numbers.count_marks.Given as goal
 
 abbrev pub invariant-loop-i : goal.invariant-loop-i

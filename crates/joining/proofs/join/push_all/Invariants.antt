@@ -1,8 +1,6 @@
 -- `joining::join::push_all` meets its contract. Assumes nothing.
 use Prim.Native.Nat.{◌-◌}
-use mathlib.Core.Path.{◌∙◌, sym}
-use Rattle.joining.proofs.Records.{Reads, Pushed, asks_value, none_pushed, more_pushed, all_pushed}
-use borrow.Author.Rules.{rules}
+use Rattle.joining.proofs.Records.{Pushed}
 use Rattle.joining.proofs.join.push_all.Given as goal
 
 abbrev pub invariant-loop-i : goal.invariant-loop-i

@@ -1,6 +1,5 @@
 -- `joining::write::value_of` meets its contract. Assumes nothing.
 use mathlib.Core.Path.{sym, ◌∙◌}
-use borrow.Author.Tests.{not-true, not-false}
 use Rattle.joining.specs.Stack.{value_of}
 use borrow.Author.Rules.{rules}
 use Rattle.joining.proofs.write.value_of.Goals as goal

@@ -1,6 +1,5 @@
 -- `joining::write::write_all` meets its contract. Assumes nothing.
-use Prim.Native.Nat.{◌-◌}
-use Rattle.joining.proofs.Records.{Wrote, none_wrote, wrote_asks, wrote_more, wrote_all}
+use Rattle.joining.proofs.Records.{none_wrote, wrote_asks, wrote_more, wrote_all}
 use borrow.Author.Rules.{rules}
 use Rattle.joining.proofs.write.write_all.Goals as goal
 

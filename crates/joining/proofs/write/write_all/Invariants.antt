@@ -1,7 +1,6 @@
 -- `joining::write::write_all` meets its contract. Assumes nothing.
 use Prim.Native.Nat.{◌-◌}
-use Rattle.joining.proofs.Records.{Wrote, none_wrote, wrote_asks, wrote_more, wrote_all}
-use borrow.Author.Rules.{rules}
+use Rattle.joining.proofs.Records.{Wrote}
 use Rattle.joining.proofs.write.write_all.Given as goal
 
 abbrev pub invariant-loop-j : goal.invariant-loop-j

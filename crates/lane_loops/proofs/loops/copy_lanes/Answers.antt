@@ -1,8 +1,7 @@
 -- `lane_loops::loops::copy_lanes` meets its contract. The invariant: so many lanes are done. The measure is what is left of n. Assumes nothing.
-use Prim.Native.Nat.{ℕ, ◌≤◌, ◌-◌}
+use Prim.Native.Nat.{ℕ}
 use mathlib.Core.Path.{◌≡◌, refl, ◌∙◌, ap}
 use native.Mathlib.Omega.{arith}
-use lib.ListN.{length}
 use Rattle.lane_loops.specs.Loops.{zip_to, beside}
 use Rattle.lane_loops.proofs.LaneLoops.{zip_again}
 use borrow.Author.Rules.{rules}

@@ -1,11 +1,8 @@
 -- `lane_loops::loops::copy_lanes` meets its contract. The invariant: so many lanes are done. The measure is what is left of n. Assumes nothing.
-use Prim.Native.Nat.{ℕ, ◌≤◌, ◌-◌}
-use mathlib.Core.Path.{◌≡◌, refl, ◌∙◌, ap}
-use native.Mathlib.Omega.{arith}
+use Prim.Native.Nat.{◌≤◌, ◌-◌}
+use mathlib.Core.Path.{◌≡◌}
 use lib.ListN.{length}
 use Rattle.lane_loops.specs.Loops.{zip_to, beside}
-use Rattle.lane_loops.proofs.LaneLoops.{zip_again}
-use borrow.Author.Rules.{rules}
 use Rattle.lane_loops.proofs.loops.copy_lanes.Given as goal
 
 abbrev pub invariant-loop-at : goal.invariant-loop-at

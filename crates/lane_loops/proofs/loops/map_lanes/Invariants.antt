@@ -1,12 +1,9 @@
 -- `lane_loops::loops::map_lanes` meets its contract. The invariant: i lanes are done. The measure is what is left of n. Assumes nothing.
 use Prim.Native.Nat.{◌≤◌, ◌-◌}
 use mathlib.Core.Path.{◌≡◌}
-use native.Mathlib.Omega.{arith}
 use lib.ListN.{length}
 use Rattle.lanes.specs.Lane.{lane_rule}
 use Rattle.lane_loops.specs.Loops.{map_to}
-use Rattle.lane_loops.proofs.LaneLoops.{map_again}
-use borrow.Author.Rules.{rules}
 use Rattle.lane_loops.proofs.loops.map_lanes.Given as goal
 
 abbrev pub invariant-loop-i : goal.invariant-loop-i

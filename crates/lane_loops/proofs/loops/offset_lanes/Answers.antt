@@ -1,8 +1,7 @@
 -- `lane_loops::loops::offset_lanes` meets its contract. The invariant: i lanes are done. The measure is what is left of n. Assumes nothing.
-use Prim.Native.Nat.{ℕ, ◌≤◌, ◌-◌}
+use Prim.Native.Nat.{ℕ}
 use mathlib.Core.Path.{◌≡◌, ◌∙◌, ap}
 use native.Mathlib.Omega.{arith}
-use lib.ListN.{length}
 use Rattle.lanes.specs.Int.{int_add}
 use Rattle.lanes.specs.Lane.{cell_rule}
 use Rattle.lane_loops.specs.Loops.{map_to}

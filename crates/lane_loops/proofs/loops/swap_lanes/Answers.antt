@@ -1,9 +1,9 @@
 -- `lane_loops::loops::swap_lanes` meets its contract. The invariant: i lanes and i cells are done. The measure is what is left of n. Assumes nothing.
-use Prim.Native.Nat.{ℕ, ◌≤◌, ◌-◌}
+use Prim.Native.Nat.{ℕ}
 use mathlib.Core.Path.{◌≡◌, ◌∙◌, ap}
 use native.Mathlib.Omega.{arith}
 use mathlib.Core.List.{List}
-use lib.ListN.{length, get_or}
+use lib.ListN.{get_or}
 use Rattle.lane_loops.specs.Loops.{zip_to, beside}
 use Rattle.lane_loops.proofs.LaneLoops.{zip_again, zip_ahead}
 use borrow.Author.Rules.{rules}

@@ -1,12 +1,8 @@
 -- `lane_loops::loops::swap_lanes` meets its contract. The invariant: i lanes and i cells are done. The measure is what is left of n. Assumes nothing.
-use Prim.Native.Nat.{ℕ, ◌≤◌, ◌-◌}
-use mathlib.Core.Path.{◌≡◌, ◌∙◌, ap}
-use native.Mathlib.Omega.{arith}
-use mathlib.Core.List.{List}
-use lib.ListN.{length, get_or}
+use Prim.Native.Nat.{◌≤◌, ◌-◌}
+use mathlib.Core.Path.{◌≡◌}
+use lib.ListN.{length}
 use Rattle.lane_loops.specs.Loops.{zip_to, beside}
-use Rattle.lane_loops.proofs.LaneLoops.{zip_again, zip_ahead}
-use borrow.Author.Rules.{rules}
 use Rattle.lane_loops.proofs.loops.swap_lanes.Given as goal
 
 abbrev pub invariant-loop-i : goal.invariant-loop-i

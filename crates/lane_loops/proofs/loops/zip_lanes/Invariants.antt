@@ -1,12 +1,9 @@
 -- `lane_loops::loops::zip_lanes` meets its contract. The invariant: so many lanes are done. The measure is what is left of n. Assumes nothing.
 use Prim.Native.Nat.{◌≤◌, ◌-◌}
 use mathlib.Core.Path.{◌≡◌}
-use native.Mathlib.Omega.{arith}
 use lib.ListN.{length}
 use Rattle.lanes.specs.Lane.{cell_rule}
 use Rattle.lane_loops.specs.Loops.{zip_to}
-use Rattle.lane_loops.proofs.LaneLoops.{zip_again}
-use borrow.Author.Rules.{rules}
 use Rattle.lane_loops.proofs.loops.zip_lanes.Given as goal
 
 abbrev pub invariant-loop-lane : goal.invariant-loop-lane

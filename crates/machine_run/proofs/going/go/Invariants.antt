@@ -1,10 +1,8 @@
 -- `machine_run::going::go` meets its contract. Assumes nothing.
-use mathlib.Core.Path.{◌∙◌, refl, sym}
-use native.Mathlib.Omega.{arith}
 use lib.ListN.{length}
 use Rattle.machine_numbers.specs.Numbers.{running}
 use Rattle.machine_step.specs.Held.{held, code}
-use Rattle.machine_run.proofs.RunLoop.{run_halted, counts_halted, Counting, counts_passing, counts_at_end, counts_spent, can_raise, counts_onward, counts_stopped_at, made_on, counted_on, counting_at_first, counts_from_first, op_here, step_asks, bytes_of, Running, passing, at_end, at_op, ahead, fewer, all_spent, stopped_at, made_few, onward, as_answered, went, open_at_first, from_first, over_before}
+use Rattle.machine_run.proofs.RunLoop.{Counting, Running, ahead}
 use Rattle.machine_run.proofs.going.go.Given as goal
 
 abbrev pub invariant-loop-position : goal.invariant-loop-position

@@ -1,7 +1,7 @@
 -- `ops::records::body_at` meets its contract. Assumes nothing.
 use mathlib.Core.Path.{◌∙◌, sym}
 use native.Mathlib.Omega.{arith}
-use borrow.Author.Tests.{eq-eqb, ne_eqb, lt-ltb, le-ltb, not-false}
+use borrow.Author.Tests.{eq-eqb, ne_eqb, lt-ltb, le-ltb}
 use Rattle.ops.specs.Record.{body_at}
 use borrow.Author.Rules.{rules}
 use Rattle.ops.proofs.records.body_at.Goals as goal

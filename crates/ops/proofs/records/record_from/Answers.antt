@@ -1,4 +1,4 @@
--- `ops::records::record_from` meets its contract, by the laws of `recordFrom`. Assumes nothing.
+-- `ops::records::record_from` meets its contract, by the laws of `record_from`. Assumes nothing.
 use mathlib.Core.Path.{◌∙◌, sym}
 use Rattle.ops.proofs.AnyFile.{from_long, from_short, at_beyond}
 use Rattle.ops.proofs.records.record_from.Goals as goal

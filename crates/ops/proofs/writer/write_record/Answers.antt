@@ -1,6 +1,5 @@
 -- `ops::writer::write_record` meets its contract. Assumes nothing.
 use mathlib.Core.Path.{refl, sym, ◌∙◌}
-use borrow.Author.Tests.{not-true, not-false}
 use lib.ListN.{length}
 use Rattle.ops.specs.Write.{write_of}
 use Rattle.ops.proofs.Room.{room_fits}

@@ -1,11 +1,6 @@
 -- `partners::patch::read` meets its contract. Assumes nothing.
-use mathlib.Core.Path.{◌≡◌, ◌∙◌, refl, ap, sym}
-use mathlib.Core.List.{List, map}
-use Prim.Native.Nat.{ℕ}
-use native.Mathlib.Omega.{arith}
 use Rattle.ops.specs.Patch.{row_in}
 use Rattle.file_laws.proofs.Loaded.{part_fits, part_length, part_few, part_is}
-use Rattle.partners.specs.Read.{patch_read}
 use Rattle.partners.proofs.Lent.{few_functions}
 use Rattle.partners.proofs.Whole.{as_read}
 use borrow.Author.Rules.{rules}

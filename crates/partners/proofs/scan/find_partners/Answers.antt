@@ -1,10 +1,9 @@
 -- `partners::scan::find_partners` meets its contract. Assumes nothing.
 use mathlib.Core.Path.{◌∙◌}
-use Prim.Native.Nat.{ℕ, ◌<◌}
+use Prim.Native.Nat.{◌<◌}
 use native.Mathlib.Omega.{arith}
-use Rattle.partners.specs.Pass.{passed}
-use Rattle.partners.proofs.Kept.{Kept, kept_first, kept_last, pass_asks, kept_turn}
-use Rattle.partners.proofs.Marks.{Marks, long, marks_first, marks_last, mark_asks, marks_turn}
+use Rattle.partners.proofs.Kept.{kept_first, kept_last, pass_asks, kept_turn}
+use Rattle.partners.proofs.Marks.{long, marks_first, marks_last, mark_asks, marks_turn}
 use Rattle.partners.proofs.scan.find_partners.Goals as goal
 
 pub scan-init : goal.scan-init

@@ -1,7 +1,4 @@
 -- `partners::scan::pass` meets its contract. Assumes nothing.
-use mathlib.Core.Path.{refl}
-use borrow.Author.Tests.{le-ltb, eq-eqb, ne_eqb}
-use Rattle.basics.specs.Pick.{pick}
 use Rattle.basics.proofs.Tests.{tests}
 use Rattle.partners.specs.Pass.{pass_of}
 use Rattle.partners.proofs.scan.pass.Goals as goal

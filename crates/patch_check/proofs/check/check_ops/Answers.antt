@@ -1,7 +1,5 @@
 -- `check::check_ops` meets its contract. Assumes nothing.
-use Rattle.patch_check.proofs.CheckLoop.{Checking, begin, stray_end_lem, stray_else_lem, few_lanes, next, at_end, open_end}
-use Prim.Native.Nat.{◌-◌}
-use lib.ListN.{length}
+use Rattle.patch_check.proofs.CheckLoop.{begin, stray_end_lem, stray_else_lem, few_lanes, next, at_end, open_end}
 use Rattle.patch_check.proofs.check.check_ops.Goals as goal
 
 pub loop-i-init : goal.loop-i-init

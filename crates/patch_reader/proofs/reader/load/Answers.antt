@@ -1,8 +1,7 @@
 -- `patch_reader::reader::load` meets its contract. Assumes nothing.
 use Rattle.patch_reader.proofs.Whole.{tells}
-use Rattle.patch_reader.proofs.Reading.{Reading, need_few, too_long, start, finish_good, finish_bad, advance, found, walk_end, walk_bad, walk_full, walk_marks}
+use Rattle.patch_reader.proofs.Reading.{need_few, too_long, start, finish_good, finish_bad, advance, found, walk_end, walk_bad, walk_full, walk_marks}
 use Prim.Native.Nat.{ℕ, ◌+◌, ◌-◌}
-use lib.ListN.{length}
 use Rattle.ops.specs.Record.{record_at}
 use Rattle.ops.specs.declared.records.Record.TheVariants.{Whole}
 use mathlib.Core.Path.{◌≡◌, sym, ap}

@@ -5,7 +5,7 @@ use native.Mathlib.Omega.{arith}
 use lib.ListN.{length, take}
 use Rattle.machine_model.specs.Formed.{Rising}
 use Rattle.searches.specs.Found.{above}
-use Rattle.searches.proofs.Tables.{raised, room_begins, room_goes, higher, entered_new}
+use Rattle.searches.proofs.Tables.{room_begins, room_goes, higher, entered_new}
 use borrow.Author.Rules.{rules}
 use Rattle.searches.proofs.table.insert.Goals as goal
 use Rattle.searches.proofs.table.insert.Goals.{Start}

@@ -1,12 +1,8 @@
 -- `searches::table::insert` meets its contract: after each turn the `moved` entries from i on stand one place higher. Assumes nothing.
-use mathlib.Core.Path.{◌≡◌, refl}
+use mathlib.Core.Path.{◌≡◌}
 use Prim.Native.Nat.{◌+◌, ◌≤◌}
-use native.Mathlib.Omega.{arith}
-use lib.ListN.{length, take}
-use Rattle.machine_model.specs.Formed.{Rising}
-use Rattle.searches.specs.Found.{above}
-use Rattle.searches.proofs.Tables.{raised, room_begins, room_goes, higher, entered_new}
-use borrow.Author.Rules.{rules}
+use lib.ListN.{length}
+use Rattle.searches.proofs.Tables.{raised}
 use Rattle.searches.proofs.table.insert.Given as goal
 
 abbrev pub invariant-loop-i : goal.invariant-loop-i

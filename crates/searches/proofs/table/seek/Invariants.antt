@@ -1,10 +1,7 @@
 -- `searches::table::seek` meets its contract: where v belongs is never before `low` and never beyond `high`. Assumes nothing.
-use mathlib.Core.Logic.{⊎_elim}
-use Prim.Native.Nat.{ℕ, ◌+◌, ◌-◌, ◌/◌, ◌≤◌, ◌<◌}
-use native.Mathlib.Omega.{arith}
-use lib.ListN.{take, get_or}
+use Prim.Native.Nat.{◌-◌, ◌≤◌}
+use lib.ListN.{take}
 use Rattle.searches.specs.Found.{below}
-use Rattle.searches.proofs.Tables.{Side, within, turns, found_there, found_missing}
 use Rattle.searches.proofs.table.seek.Given as goal
 
 abbrev pub invariant-loop-low : goal.invariant-loop-low

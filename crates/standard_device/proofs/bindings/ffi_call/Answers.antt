@@ -2,7 +2,7 @@
 use mathlib.Core.Path.{◌≡◌, ◌∙◌, sym}
 use mathlib.Core.Bool.{true}
 use native.Mathlib.Omega.{arith}
-use borrow.Author.Tests.{not-true, not-false, lt-ltb, le-ltb}
+use borrow.Author.Tests.{lt-ltb, le-ltb}
 use Rattle.testing_device.specs.Channel.{is_ring}
 use Rattle.testing_device.proofs.Rings.{Ringed, ringed}
 use Rattle.standard_device.specs.Bindings.{call_in}

@@ -2,7 +2,6 @@
 use mathlib.Core.Path.{◌∙◌}
 use native.Mathlib.Omega.{arith}
 use Rattle.testing_device.proofs.Rings.{Ringed, ringed}
-use Rattle.standard_device.specs.Bindings.{inputs}
 use Rattle.standard_device.proofs.Values.{root_of_first, sum_of_two}
 use Rattle.standard_device.proofs.bindings.result_of.Goals as goal
 use Rattle.standard_device.proofs.bindings.result_of.Goals.{Start}

@@ -1,7 +1,7 @@
 -- `standard_device::root::near_root` meets its contract. Assumes nothing.
-use Prim.Native.Nat.{ℕ, ◌-◌, ◌*◌, ◌^◌, ◌<◌}
+use Prim.Native.Nat.{ℕ, ◌*◌, ◌^◌, ◌<◌}
 use native.Mathlib.Omega.{arith}
-use Rattle.standard_device.proofs.Whole.{Working, started, bounded, turned, finished, near_up, near_down}
+use Rattle.standard_device.proofs.Whole.{started, bounded, turned, finished, near_up, near_down}
 use borrow.Author.Rules.{rules}
 use Rattle.standard_device.proofs.root.near_root.Goals as goal
 

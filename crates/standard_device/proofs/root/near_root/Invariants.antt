@@ -1,8 +1,6 @@
 -- `standard_device::root::near_root` meets its contract. Assumes nothing.
-use Prim.Native.Nat.{ℕ, ◌-◌, ◌*◌, ◌^◌, ◌<◌}
-use native.Mathlib.Omega.{arith}
-use Rattle.standard_device.proofs.Whole.{Working, started, bounded, turned, finished, near_up, near_down}
-use borrow.Author.Rules.{rules}
+use Prim.Native.Nat.{◌-◌}
+use Rattle.standard_device.proofs.Whole.{Working}
 use Rattle.standard_device.proofs.root.near_root.Given as goal
 
 abbrev pub invariant-loop-i : goal.invariant-loop-i

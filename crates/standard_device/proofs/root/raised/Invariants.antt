@@ -1,11 +1,6 @@
 -- `standard_device::root::raised` meets its contract. Assumes nothing.
-use mathlib.Core.Path.{◌≡◌, sym, ap}
-use Prim.Native.Nat.{ℕ, ◌+◌, ◌-◌, ◌*◌, ◌^◌, ◌<◌}
-use native.Mathlib.Omega.{arith}
-use native.Mathlib.Nat.{mul-one}
-use lib.Pow.{pow-add}
-use Rattle.standard_device.proofs.Whole.{few, lifted}
-use borrow.Author.Rules.{rules}
+use mathlib.Core.Path.{◌≡◌}
+use Prim.Native.Nat.{◌-◌, ◌*◌, ◌^◌, ◌<◌}
 use Rattle.standard_device.proofs.root.raised.Given as goal
 
 abbrev pub invariant-loop-m : goal.invariant-loop-m

@@ -1,12 +1,10 @@
 -- `states::formed::calls_below` meets its contract. Assumes nothing.
-use mathlib.Core.Path.{◌≡◌, ◌∙◌, refl, sym}
-use Prim.Native.Nat.{◌-◌, ◌≤◌}
+use mathlib.Core.Path.{◌∙◌, refl, sym}
 use native.Mathlib.Omega.{arith}
 use native.Mathlib.Nat.{sub-zero}
-use lib.Dec.{ltb}
 use borrow.Author.Tests.{le-ltb, lt-ltb}
-use Rattle.states.specs.Formed.{all_of, calls_below}
-use Rattle.states.proofs.Entries.{left, all_end, all_on, all_not}
+use Rattle.states.specs.Formed.{calls_below}
+use Rattle.states.proofs.Entries.{all_end, all_on, all_not}
 use borrow.Author.Rules.{rules}
 use Rattle.states.proofs.formed.calls_below.Goals as goal
 

@@ -1,13 +1,9 @@
 -- `states::formed::calls_below` meets its contract. Assumes nothing.
-use mathlib.Core.Path.{◌≡◌, ◌∙◌, refl, sym}
+use mathlib.Core.Path.{◌≡◌}
 use Prim.Native.Nat.{◌-◌, ◌≤◌}
-use native.Mathlib.Omega.{arith}
-use native.Mathlib.Nat.{sub-zero}
 use lib.Dec.{ltb}
-use borrow.Author.Tests.{le-ltb, lt-ltb}
 use Rattle.states.specs.Formed.{all_of, calls_below}
-use Rattle.states.proofs.Entries.{left, all_end, all_on, all_not}
-use borrow.Author.Rules.{rules}
+use Rattle.states.proofs.Entries.{left}
 use Rattle.states.proofs.formed.calls_below.Given as goal
 
 abbrev pub invariant-loop-i : goal.invariant-loop-i

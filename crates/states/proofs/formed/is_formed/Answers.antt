@@ -1,9 +1,8 @@
 -- `states::formed::is_formed` meets its contract. Where tests are passed, r, l, i, b and w are the points after those of the room, the limits, the places,
 -- the calls and the saved pointers. Assumes nothing.
 use mathlib.Core.Path.{◌≡◌, refl, sym, ◌∙◌}
-use mathlib.Core.Bool.{Bool, true, false, not}
+use mathlib.Core.Bool.{Bool, true, false}
 use native.Mathlib.Omega.{arith}
-use borrow.Author.Tests.{not-true, not-false}
 use Rattle.states.specs.Formed.{is_formed}
 use Rattle.states.proofs.WellFormed.{room, limits}
 use borrow.Author.Rules.{rules}

@@ -1,13 +1,10 @@
 -- `states::formed::refs_within` meets its contract. Assumes nothing.
-use mathlib.Core.Path.{◌≡◌, ◌∙◌, refl, sym}
-use Prim.Native.Nat.{◌-◌, ◌≤◌}
+use mathlib.Core.Path.{◌∙◌, refl, sym}
 use native.Mathlib.Omega.{arith}
 use native.Mathlib.Nat.{sub-zero}
-use lib.Dec.{leb}
 use borrow.Author.Tests.{lt-leb, le-leb}
-use Rattle.basics.specs.Limits.{farthest}
-use Rattle.states.specs.Formed.{all_of, refs_within}
-use Rattle.states.proofs.Entries.{left, all_end, all_on, all_not}
+use Rattle.states.specs.Formed.{refs_within}
+use Rattle.states.proofs.Entries.{all_end, all_on, all_not}
 use borrow.Author.Rules.{rules}
 use Rattle.states.proofs.formed.refs_within.Goals as goal
 

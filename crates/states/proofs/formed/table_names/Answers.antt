@@ -1,10 +1,9 @@
 -- `states::formed::table_names` meets its contract. Assumes nothing.
-use mathlib.Core.Path.{◌≡◌, ◌∙◌, refl, sym}
-use Prim.Native.Nat.{◌-◌, ◌≤◌}
+use mathlib.Core.Path.{◌∙◌, refl, sym}
 use native.Mathlib.Omega.{arith}
 use native.Mathlib.Nat.{sub-zero}
-use Rattle.states.specs.Formed.{names_from, table_names}
-use Rattle.states.proofs.Entries.{left, names_end, names_low, names_beyond, names_not, names_on}
+use Rattle.states.specs.Formed.{table_names}
+use Rattle.states.proofs.Entries.{names_end, names_low, names_beyond, names_not, names_on}
 use borrow.Author.Rules.{rules}
 use Rattle.states.proofs.formed.table_names.Goals as goal
 

@@ -1,8 +1,7 @@
 -- `states::zeros::zero` meets its contract. Assumes nothing.
 use mathlib.Core.Path.{◌≡◌, refl}
-use Prim.Native.Nat.{◌-◌, ◌≤◌}
 use native.Mathlib.Omega.{arith}
-use lib.ListN.{length, length-set}
+use lib.ListN.{length-set}
 use Rattle.byte_fields.specs.Storage.{fill}
 use Rattle.states.specs.Zeros.{zeroed}
 use Rattle.states.proofs.Entries.{zero_on}

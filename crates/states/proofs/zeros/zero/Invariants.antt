@@ -1,12 +1,8 @@
 -- `states::zeros::zero` meets its contract. Assumes nothing.
-use mathlib.Core.Path.{◌≡◌, refl}
+use mathlib.Core.Path.{◌≡◌}
 use Prim.Native.Nat.{◌-◌, ◌≤◌}
-use native.Mathlib.Omega.{arith}
-use lib.ListN.{length, length-set}
-use Rattle.byte_fields.specs.Storage.{fill}
+use lib.ListN.{length}
 use Rattle.states.specs.Zeros.{zeroed}
-use Rattle.states.proofs.Entries.{zero_on}
-use borrow.Author.Rules.{rules}
 use Rattle.states.proofs.zeros.zero.Given as goal
 
 abbrev pub invariant-loop-i : goal.invariant-loop-i

@@ -1,6 +1,5 @@
 -- `testing_device::channel::peek` meets its contract. Assumes nothing.
-use Rattle.std.proofs.Common.{◌≡◌, true, sym, ◌∙◌, arith, rules}
-use borrow.Author.Tests.{not-true, not-false}
+use Rattle.std.proofs.Common.{◌≡◌, true, sym, ◌∙◌, arith}
 use Rattle.testing_device.specs.Channel.{is_ring, peek_of}
 use Rattle.testing_device.proofs.Rings.{Ringed, ringed, peek_none, peek_some}
 use Rattle.testing_device.proofs.channel.peek.Goals as goal

@@ -1,6 +1,6 @@
 -- `testing_device::channel::poke` meets its contract. Assumes nothing.
 use Rattle.std.proofs.Common.{◌≡◌, true, sym, ◌∙◌, arith, rules, le-leb}
-use borrow.Author.Tests.{not-true, not-false, lt-leb}
+use borrow.Author.Tests.{lt-leb}
 use Rattle.testing_device.specs.Channel.{is_ring, poke_in}
 use Rattle.testing_device.proofs.Rings.{Ringed, ringed}
 use borrow.Author.Rules.{rules}

@@ -1,5 +1,5 @@
 -- `testing_device::input::get_char` meets its contract. Assumes nothing.
-use Rattle.std.proofs.Common.{drop_of_length-le, drop-cons, rules}
+use Rattle.std.proofs.Common.{drop_of_length-le, drop-cons}
 use Rattle.testing_device.proofs.input.get_char.Goals as goal
 
 pub returns-then-input-at : goal.returns-then-input-at

@@ -1,9 +1,9 @@
 -- `testing_device::input::get_int` meets its contract. Assumes nothing.
-use Rattle.std.proofs.Common.{◌≡◌, ℕ, ◌+◌, ◌-◌, ◌*◌, ◌%◌, ◌^◌, ◌<◌, ◌≤◌, Bool, true, false, not, List, length, get_or, drop, sym, ◌∙◌, rules}
+use Rattle.std.proofs.Common.{◌≡◌, ℕ, ◌+◌, ◌-◌, ◌*◌, ◌%◌, ◌^◌, ◌<◌, ◌≤◌, Bool, true, false, not, List, length, get_or, sym, ◌∙◌}
 use borrow.Author.Tests.{not-true, not-false}
 use Rattle.testing_device.specs.declared.device.Got.{Got}
 use Rattle.testing_device.specs.declared.device.Got.TheVariants.{Value}
-use Rattle.testing_device.specs.Device.{is_digit, int_from}
+use Rattle.testing_device.specs.Device.{is_digit}
 use Rattle.testing_device.proofs.Inputs.{leading_end, leading_stop, digits_from, digits_none, digits_more, int_is, digit_least}
 use Rattle.testing_device.proofs.input.get_int.Goals as goal
 

@@ -1,7 +1,6 @@
 -- `testing_device::input::past_spaces` meets its contract. Assumes nothing.
-use Rattle.std.proofs.Common.{◌≡◌, ◌+◌, ◌-◌, length, drop, sym, refl, ◌∙◌, add-zero, rules}
-use borrow.Author.Tests.{not-true, not-false}
-use Rattle.testing_device.specs.Device.{is_space, leading}
+use Rattle.std.proofs.Common.{sym, refl, ◌∙◌, add-zero}
+use Rattle.testing_device.specs.Device.{is_space}
 use Rattle.testing_device.proofs.Inputs.{leading_end, leading_stop, leading_on}
 use Rattle.testing_device.proofs.input.past_spaces.Goals as goal
 

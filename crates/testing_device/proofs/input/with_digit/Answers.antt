@@ -1,6 +1,6 @@
 -- `testing_device::input::with_digit` meets its contract. Assumes nothing.
 use Rattle.testing_device.proofs.Inputs.{tenfold}
-use Rattle.std.proofs.Common.{◌∙◌, rules}
+use Rattle.std.proofs.Common.{◌∙◌}
 use Rattle.testing_device.proofs.input.with_digit.Goals as goal
 
 pub returns : goal.returns

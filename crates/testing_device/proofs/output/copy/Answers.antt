@@ -1,6 +1,6 @@
 -- `testing_device::output::copy` meets its contract. Assumes nothing.
-use Rattle.std.proofs.Common.{◌≡◌, ◌-◌, ◌≤◌, length, refl, ◌∙◌, add-one, arith, length-set, rules}
-use lib.Seq.{paste, paste-zero, paste-suc}
+use Rattle.std.proofs.Common.{refl, ◌∙◌, add-one, arith, length-set}
+use lib.Seq.{paste-zero, paste-suc}
 use Rattle.testing_device.proofs.Outputs.{placed_all}
 use Rattle.testing_device.proofs.output.copy.Goals as goal
 

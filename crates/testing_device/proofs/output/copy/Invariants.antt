@@ -1,7 +1,6 @@
 -- `testing_device::output::copy` meets its contract. Assumes nothing.
-use Rattle.std.proofs.Common.{◌≡◌, ◌-◌, ◌≤◌, length, refl, ◌∙◌, add-one, arith, length-set, rules}
-use lib.Seq.{paste, paste-zero, paste-suc}
-use Rattle.testing_device.proofs.Outputs.{placed_all}
+use Rattle.std.proofs.Common.{◌≡◌, ◌-◌, ◌≤◌, length}
+use lib.Seq.{paste}
 use Rattle.testing_device.proofs.output.copy.Given as goal
 
 abbrev pub invariant-loop-i : goal.invariant-loop-i

@@ -1,6 +1,5 @@
 -- `testing_device::output::digits_of` meets its contract. Assumes nothing.
-use Rattle.std.proofs.Common.{◌≡◌, ◌-◌, ◌^◌, ◌<◌, ◌≤◌, ◌++◌, length, drop, refl, ◌∙◌, append-nil, arith, length-set, rules}
-use Rattle.testing_device.specs.Device.{decimal}
+use Rattle.std.proofs.Common.{refl, ◌∙◌, append-nil, arith, length-set}
 use Rattle.testing_device.proofs.Outputs.{digit_more, digit_last, digits_fit}
 use Rattle.testing_device.proofs.output.digits_of.Goals as goal
 

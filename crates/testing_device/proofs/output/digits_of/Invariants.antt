@@ -1,7 +1,6 @@
 -- `testing_device::output::digits_of` meets its contract. Assumes nothing.
-use Rattle.std.proofs.Common.{◌≡◌, ◌-◌, ◌^◌, ◌<◌, ◌≤◌, ◌++◌, length, drop, refl, ◌∙◌, append-nil, arith, length-set, rules}
+use Rattle.std.proofs.Common.{◌≡◌, ◌-◌, ◌^◌, ◌<◌, ◌≤◌, ◌++◌, length, drop}
 use Rattle.testing_device.specs.Device.{decimal}
-use Rattle.testing_device.proofs.Outputs.{digit_more, digit_last, digits_fit}
 use Rattle.testing_device.proofs.output.digits_of.Given as goal
 
 abbrev pub invariant-loop-rest : goal.invariant-loop-rest
