@@ -1,5 +1,5 @@
 -- `lanes::float::either_nan` meets its contract. Assumes nothing.
-use Rattle.std.proofs.Common.{ℕ, ◌^◌, leb, ap, ◌∙◌, rules}
+use Rattle.std.proofs.Common.{ℕ, ◌^◌, leb, ap, ◌∙◌}
 use Rattle.lanes.proofs.Floats.{either}
 use Rattle.lanes.proofs.float.either_nan.Goals as goal
 

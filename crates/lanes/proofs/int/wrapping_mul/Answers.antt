@@ -1,5 +1,5 @@
 -- `lanes::int::wrapping_mul` meets its contract. Assumes nothing.
-use Rattle.std.proofs.Common.{◌∙◌, arith, rules}
+use Rattle.std.proofs.Common.{◌∙◌, arith}
 use Rattle.lanes.proofs.Ints.{half_product, halves}
 use Rattle.lanes.proofs.int.wrapping_mul.Goals as goal
 
