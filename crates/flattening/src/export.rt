@@ -27,7 +27,7 @@ fn report_of(answer: Flattened) -> Report
     }
 }
 
-// By hand: `flatten`, with a report as its answer.
+// `flatten`, with a report as its answer.
 #[unsafe(no_mangle)]
 pub extern "C" fn feltcairn_flatten<'p, 'o, 'a>(
     bytes: &'p [u8],

@@ -1,4 +1,4 @@
-// A whole file, with the entries of the bodies in the caller's list. The work is done by value, in columns; what goes to the list is proved by hand.
+// A whole file, with the entries of the bodies in the caller's list. The work is done by value, in columns, and then goes to the list.
 ghost use Rattle.std.specs.Prelude.{◌≡◌, ◌<◌, ◌≤◌, length, take, replicate};
 ghost use Rattle.basics.specs.Limits.{most_marks};
 ghost use Rattle.answers.specs.Flatten.{bodies_of};
@@ -78,7 +78,7 @@ fn answer_of(columns: Columns) -> Flattened
     columns.answer
 }
 
-// By hand: the first n entries, to the list.
+// The first n entries, to the list.
 fn write_entries<'a>(bodies: &'a mut [Body], columns: Columns, n: usize)
     requires { (n ≤ length bodies.old) × (n ≤ most_marks) }
     ensures { bodies.new ≡ over (entries_in columns n) bodies.old }
@@ -91,7 +91,7 @@ fn write_entries<'a>(bodies: &'a mut [Body], columns: Columns, n: usize)
     }
 }
 
-// By hand: flattens a patch. Each function's own ops, then main, go to `out`, and an entry of each function's body to `bodies`.
+// Flattens a patch. Each function's own ops, then main, go to `out`, and an entry of each function's body to `bodies`.
 pub fn flatten<'p, 'o, 'a>(bytes: &'p [u8], out: &'o mut [u8], bodies: &'a mut [Body]) -> Flattened
     ensures { listing result out.new bodies.new ≡ flatten_to bytes.now out.old bodies.old }
 {

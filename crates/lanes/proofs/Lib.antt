@@ -4,5 +4,6 @@ pub mod Floats
 pub mod Values
 pub mod Rem
 pub mod Small
+pub mod Steps
 pub mod Below
 pub mod Cases

@@ -14,7 +14,7 @@ use Rattle.lanes.proofs.Floats.{stored_is, stored_nan, rem_strict, untrue}
 use Rattle.lanes.proofs.Rem.{rem_exact}
 
 -- ---- how many times the smallest value a float is, by its fields: that of the exponent, e, and the digits below the leading one, t
-abbrev units : ℕ → ℕ → ℕ
+abbrev pub units : ℕ → ℕ → ℕ
 units zero t = t * 2 ^ 0
 units (suc j) t = (2 ^ 52 + t) * 2 ^ j
 
@@ -71,17 +71,17 @@ by_infinity (inf z) s t u c h = absurd h
 by_infinity (fin z m e) s t u c h = refl
 
 -- ---- patterns
-abbrev field : ℕ → ℕ
+abbrev pub field : ℕ → ℕ
 field a = a % 2 ^ 63 / 2 ^ 52
 
 fields : (a : ℕ) → field a * 2 ^ 52 + a % 2 ^ 52 ≡ a % 2 ^ 63
 fields a = ap (λ (t : ℕ). field a * 2 ^ 52 + t) (sym (mod-mod-pow a 11 52)) ∙ div-add-mod' (a % 2 ^ 63) (2 ^ 52)
 
-value : (a : ℕ) → field a < 2047 → HasValue (loaded_of a) (leb (2 ^ 63) a) (units (field a) (a % 2 ^ 52)) (2 ^ 1074)
+pub value : (a : ℕ) → field a < 2047 → HasValue (loaded_of a) (leb (2 ^ 63) a) (units (field a) (a % 2 ^ 52)) (2 ^ 1074)
 unfolding of_bits
 value a h = has_value (leb (2 ^ 63) a) (field a) (a % 2 ^ 52) h
 
-infinite : (a : ℕ) → field a ≡ 2047 → a % 2 ^ 52 ≡ 0 → loaded_of a ≡ inf (leb (2 ^ 63) a)
+pub infinite : (a : ℕ) → field a ≡ 2047 → a % 2 ^ 52 ≡ 0 → loaded_of a ≡ inf (leb (2 ^ 63) a)
 unfolding of_bits of_fields
 infinite a e t = rw (e, t) refl
 
@@ -122,6 +122,3 @@ module _ (a b : ℕ) {x : ℕ} where
 module _ (a b : ℕ) {x y : ℕ} (p : x ≡ 2 * (a % 2 ^ 63)) (q : y ≡ 2 * (b % 2 ^ 63)) where
   pub rem_below : a < 2 ^ 64 → x < y → y ≤ 0xFFE0_0000_0000_0000 → a ≡ float_rem a b
   rem_below h l m = rem_smaller a b h (twice_number a p (omega (arith, l, m))) (twice_number b q m) (omega (arith, p, q, l))
-
-  pub divisor_number : y ≤ x → x ≤ 0xFFE0_0000_0000_0000 → T (not (nan_bits binary64 b))
-  divisor_number l m = twice_number b q (omega (arith, l, m))

@@ -1,3 +1,4 @@
 pub mod Int
 pub mod Float
 pub mod Lane
+pub mod Steps

@@ -1,11 +1,12 @@
 // A lane as a float of 64 bits, by its pattern: one function for each arm of the Rust's `step`, in the order of the arms. Every NaN pattern is
-// read as the one NaN, and a NaN that an op gives is stored as one pattern. Each of + - * % leaves where an operand is a NaN, which no sum needs.
+// read as the one NaN, and a NaN that an op gives is stored as one pattern. Each of + - * leaves where an operand is a NaN, which no sum needs.
 ghost use Rattle.std.specs.Prelude.{◌≡◌, ◌*◌, ◌%◌, ◌^◌, ◌||◌};
 ghost use Rattle.std.specs.Float.{binary64};
 ghost use Rattle.std.specs.Float.Ieee.{nan_bits};
 ghost use Rattle.lanes.specs.Float.{stored_of, float_add, float_sub, float_mul, float_div, float_rem, float_neg, float_gez, to_int, to_float};
 
 use crate::int::{HALF, bit_or, magnitude, with_sign};
+use crate::remainder::remainder;
 
 // The pattern that every NaN is stored as.
 pub const NAN: u64 = 0x7FF8_0000_0000_0000;
@@ -108,8 +109,8 @@ fn doubled(a: u64) -> u64
     std::num::wrapping_add_u64(a, a)
 }
 
-// A float below the divisor in size, as every finite one is below infinity, is its own remainder, and no call is made for it. A NaN's pattern is
-// above infinity's, and so is its double.
+// A float below the divisor in size, as every finite one is below infinity, is its own remainder, and nothing is computed for it. A NaN's pattern is
+// above infinity's, and so is its double. What is left has the sign of what is divided.
 pub fn float_rem(a: u64, b: u64) -> u64
     ensures { result ≡ float_rem a b }
 {
@@ -121,10 +122,14 @@ pub fn float_rem(a: u64, b: u64) -> u64
         }
         return a;
     }
-    if x > TWICE_INFINITY {
+    if x >= TWICE_INFINITY {
         return NAN;
     }
-    as_int(f64::from_bits(a) % f64::from_bits(b))
+    if y == 0 {
+        return NAN;
+    }
+    let p = a % HALF;
+    remainder(p, b % HALF) + (a - p)
 }
 
 // The sign's bit flipped, of a NaN too.

@@ -1,5 +1,5 @@
 // The record reader: it holds the patch bytes and its place. What a record is, `ops::records` decides; these functions take
-// the reader apart and hand it on, and are proved by hand.
+// the reader apart and hand it on.
 ghost use Rattle.std.specs.Prelude.{◌≡◌};
 ghost use Rattle.ops.specs.Record.{record_from};
 
