@@ -120,7 +120,7 @@ pub extern "C" fn feltcairn_flatten_numbers(
     number
 }
 
-// Flattening with the entries in one list of structs, as `flattening::export` has it for Rattle: the number is in the report, with its place and what is
+// Flattening with the entries in one list of structs, as the crate flattening has it for Rattle: the number is in the report, with its place and what is
 // written.
 #[unsafe(no_mangle)]
 pub extern "C" fn feltcairn_flatten(bytes: &[u8], out: &mut [u8], bodies: &mut [Body]) -> Report
