@@ -1,3 +1,4 @@
 pub mod Chars
 pub mod Decimal
 pub mod Post
+pub mod Text
