@@ -10,13 +10,11 @@ use ops::records::Record;
 use patch_reader::reader::{Read, load};
 
 // Where the outermost open bracket stands: at op i if no bracket is open before it, else where it stood.
+#[tactic(auto, unfolding(crate::specs::Rows::outermost_of))]
 fn outermost_of(depth: usize, outermost: usize, i: usize) -> usize
     ensures { result ≡ outermost_of depth i outermost }
 {
-    if depth == 0 {
-        return i;
-    }
-    outermost
+    if depth == 0 { i } else { outermost }
 }
 
 // The ops of a patch, by the rows of their kinds and what they count.
@@ -54,16 +52,7 @@ fn check_ops(rows: &[u8], counts: &[u16]) -> Verdict
 pub fn check(bytes: &[u8]) -> Verdict
     ensures { result ≡ check_of bytes.now }
 {
-    let mut rows = [0u8; Read::OPS];
-    let mut counts = [0u16; Read::OPS];
-    let mut needs = [0u16; Read::OPS];
-    let mut payloads = [0u32; Read::OPS];
-    let read = load(bytes, &mut rows, &mut counts, &mut needs, &mut payloads);
-    let number = read.number;
-    if number != 0 {
-        let place = read.place;
-        return Err(CheckError::BadFile { number, place });
-    }
-    let n = read.ops;
-    check_ops(&rows[..n], &counts[..n])
+    let mut read = Read::blank();
+    let count = load(bytes, &mut read)?;
+    check_ops(&read.rows[..count], &read.counts[..count])
 }
