@@ -94,7 +94,11 @@ pub extern "C" fn feltcairn_join(bytes: &[u8], out: &mut [u8], answer: &mut [u64
 {
     let joined = joining::join::join(bytes, out);
     let number = joined.number();
-    let told = [number as u64, joined.place() as u64, length_of(joined) as u64];
+    let told = [
+        number as u64,
+        joined.place() as u64,
+        length_of(joined) as u64,
+    ];
     tell(answer, &told);
     number
 }
