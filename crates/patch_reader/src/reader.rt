@@ -11,7 +11,7 @@ use ops::records::Record;
 use ops::refusals::{Fault, Refusal};
 
 // The ops that were read, each with its entry in the four columns: the row of its kind, its count, the lanes that a run of
-// it needs, and its payload's first byte.
+// it needs, and its payload's first byte. Columns and no array of ops: a check reads two of them alone, and a machine holds them so.
 #[derive(Drop)]
 pub struct Read {
     pub rows: [u8; Read::OPS],
