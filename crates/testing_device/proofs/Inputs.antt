@@ -3,7 +3,8 @@ use Rattle.std.proofs.Common.{◌≡◌, ℕ, suc, ◌+◌, ◌-◌, ◌*◌, �
 use Rattle.basics.proofs.Tests.{by_case}
 use Rattle.ops.specs.declared.op.Mode.{Mode}
 use Rattle.ops.specs.declared.op.Mode.TheVariants.{Char, Int, Other}
-use Rattle.decimals.proofs.Ends.{leading_end, leading_length}
+use Rattle.decimals.proofs.Ends.{leading_end}
+pub use Rattle.decimals.proofs.Ends.{leading_length}
 use Rattle.testing_device.specs.declared.device.Taken.{Taken}
 use Rattle.testing_device.specs.Device.{is_space, is_digit, leading, decimal_from, int_from, char_from, get_of}
 use Rattle.testing_device.proofs.Words.{Words, words_drop}
@@ -34,26 +35,6 @@ digits_last l start i a x e h b o =
 pub int_is : (l : List ℕ) (at : ℕ) → digits_from l (at + leading is_space (drop at l)) 0 ≡ int_from (drop at l) at
 unfolding digits_from int_from
 int_is l at = rw (drop-drop (leading is_space (drop at l)) at l) refl
-
--- a sum modulo 2 ^ 64 of sums modulo 2 ^ 64
-wrapped : (a b : ℕ) → (a % 2 ^ 64 + b % 2 ^ 64) % 2 ^ 64 ≡ (a + b) % 2 ^ 64
-wrapped a b = omega arith
-
-wrapped_left : (a b : ℕ) → (a % 2 ^ 64 + b) % 2 ^ 64 ≡ (a + b) % 2 ^ 64
-wrapped_left a b = omega arith
-
--- ten times a is eight times and twice a
-pub tenfold : (a d : ℕ) {t f e n : ℕ} → t ≡ (a + a) % 2 ^ 64 → f ≡ (t + t) % 2 ^ 64 → e ≡ (f + f) % 2 ^ 64 → n ≡ (e + t) % 2 ^ 64
-    → (n + d) % 2 ^ 64 ≡ (a * 10 + d) % 2 ^ 64
-tenfold a d {t} {f} {e} {n} et ef ee en =
-    let two = a + a in let four = two + two in
-    let qf : f ≡ four % 2 ^ 64 = ef ∙ rw et (wrapped two two) in
-    let qe : e ≡ (four + four) % 2 ^ 64 = ee ∙ rw qf (wrapped four four) in
-    let qn : n ≡ (four + four + two) % 2 ^ 64 = en ∙ rw (qe, et) (wrapped (four + four) two) in
-    rw qn (wrapped_left (four + four + two) d ∙ ap (λ (k : ℕ). (k + d) % 2 ^ 64) (ten a))
-  where
-    ten : (a : ℕ) → a + a + (a + a) + (a + a + (a + a)) + (a + a) ≡ a * 10
-    ten a = omega arith
 
 -- ---- bounds
 

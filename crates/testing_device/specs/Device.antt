@@ -10,6 +10,10 @@ use Rattle.testing_device.specs.declared.device.Taken.{Taken}
 
 -- ---- Get
 
+-- what it gives: a value and the place after it, or none
+abbrev pub Got : Type 0
+Got = Option Taken
+
 -- "wraps": the number that decimal digits write after the number a, modulo 2 ^ 64
 unfoldable pub decimal_from : ℕ → List ℕ → ℕ
 decimal_from a [] = a
@@ -24,12 +28,12 @@ int_from vs at =
     record { value = decimal_from 0 (take n (drop a vs)); at = at + a + n }
 
 -- a char is the next value whole; none left is 35
-abbrev pub char_from : List ℕ → ℕ → Option Taken
+abbrev pub char_from : List ℕ → ℕ → Got
 char_from [] at = None
 char_from (v ∷ vs) at = Some (record { value = v; at = at + 1 })
 
 -- what Get takes of the input from the place `at` on; "Mode 3 gets 0"
-unfoldable pub get_of : Mode → List ℕ → ℕ → Option Taken
+unfoldable pub get_of : Mode → List ℕ → ℕ → Got
 unfolding int_from
 get_of Char input at = char_from (drop at input) at
 get_of Int input at = Some (int_from (drop at input) at)
