@@ -1,4 +1,5 @@
 // A patch that is read, as a step is lent it: its columns, and its bytes.
+ghost use Rattle.std.specs.Prelude.{ℕ, ◌<◌, slice_index};
 
 // Of each op its row, what it counts, the lanes that it needs, its payload's place, its partner and an If's Else; the places of the marks; and the bytes.
 #[derive(Clone, Copy)]
@@ -11,4 +12,5 @@ pub struct Columns<'a> {
     pub turns: &'a [u16],
     pub marks: &'a [u16],
     pub bytes: &'a [u8],
+    ghost fits: { (i : ℕ) → slice_index bytes.now i < 256 },
 }
