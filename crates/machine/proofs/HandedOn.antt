@@ -1,5 +1,5 @@
 -- A patch that was handed on is run as it is read: its columns are those of its bytes. Assumes nothing.
-use mathlib.Core.Path.{◌≡◌, ◌∙◌, refl, sym, subst}
+use mathlib.Core.Path.{◌≡◌, ◌∙◌, refl, ap, sym, subst}
 use mathlib.Core.List.{List, map}
 use Prim.Native.Nat.{ℕ, ◌+◌, ◌-◌, ◌≤◌}
 use native.Mathlib.Omega.{arith}
@@ -10,11 +10,12 @@ use Rattle.ops.specs.Patch.{row_in, count_in, need_in, payload_in, patch_of}
 use Rattle.answers.specs.declared.run.Answer.TheVariants.{BadFile}
 use Rattle.patch_reader.specs.Answer.{read_of}
 use Rattle.patch_reader.specs.declared.reader.Read.{Read}
+use Rattle.file_laws.proofs.Items.{few_items}
 use Rattle.file_laws.proofs.Loaded.{part_is, part_length}
 use Rattle.partners.specs.Columns.{nowhere, partners_of, turns_of, functions_of, fill_end}
 use Rattle.partners.specs.Read.{patch_read}
 use Rattle.partners.specs.declared.patch.Patch.{Patch}
-use Rattle.partners.proofs.Lent.{few_functions, start_many, start_fits, end_long, many_partners, many_turns}
+use Rattle.partners.proofs.Lent.{few_functions, end_long}
 use Rattle.machine_step.specs.Held.{code}
 use Rattle.machine_run.specs.Ready.{IsRead}
 use Rattle.machine.specs.Calls.{Tallied, ended, run_call}
@@ -41,25 +42,24 @@ module _ (s : List ℕ) (q : Patch) (e : q ≡ patch_read s) where
   unfolding patch_read
   found = rw rows_are (rw e (refl, (refl, (omega (arith, few_functions s), refl))))
 
+  many_marks : length q.marks ≡ most_marks
+  many_marks = let n = length-replicate {A = ℕ} most_marks nowhere in end_long _ _ _ q.first (found.1.1.0 ∙ sym n) found.1.1.1 ∙ n
+
   pub is_handed : q.number ≡ 0
-      → IsRead s (code (take q.ops q.rows) (take q.ops q.counts) (take q.ops q.needs) (take q.ops q.payloads) (take q.ops q.partners) (take q.ops q.turns) (take (most_marks - q.first) (drop q.first q.marks)) s)
+      → IsRead s (code (take q.ops q.rows) (take q.ops q.counts) (take q.ops q.needs) (take q.ops q.payloads) (take q.ops q.partners) (take q.ops q.turns) (take (length q.marks - q.first) (drop q.first q.marks)) s)
   is_handed z =
       let l = is_loaded s answered q.rows q.counts q.needs q.payloads _ _ _ _ loaded z in
-      subst (λ (n : ℕ). IsRead s (code (take q.ops q.rows) (take q.ops q.counts) (take q.ops q.needs) (take q.ops q.payloads) (take n q.partners) (take n q.turns) (take (most_marks - q.first) (drop q.first q.marks)) s)) many
-      (is_read s _ _ _ _ l _ _ _ _ _ _ _ found (length-replicate {A = ℕ} most_marks nowhere))
+      let part = λ (n m : ℕ). code (take q.ops q.rows) (take q.ops q.counts) (take q.ops q.needs) (take q.ops q.payloads) (take n q.partners) (take n q.turns) (take (m - q.first) (drop q.first q.marks)) s in
+      subst (λ (m : ℕ). IsRead s (part q.ops m)) (sym many_marks)
+      (subst (λ (n : ℕ). IsRead s (part n most_marks)) many (is_read s _ _ _ _ l _ _ _ _ _ _ _ found (length-replicate {A = ℕ} most_marks nowhere)))
 
   -- what is lent is within the columns
-  pub partners_fit : (q.ops ≤ length q.partners) × (q.ops ≡ length (take q.ops q.partners))
-  partners_fit = (start_fits _ _ _ found.0 q.ops (many_partners _ ∙ many), start_many _ _ _ found.0 q.ops (many_partners _ ∙ many))
+  pub few_handed : q.ops ≤ most_ops
+  unfolding read_of
+  few_handed = omega (arith, ap (λ (r : Read). r.ops) loaded.0, few_items s)
 
-  pub turns_fit : (q.ops ≤ length q.turns) × (q.ops ≡ length (take q.ops q.turns))
-  turns_fit = (start_fits _ _ _ found.1.0 q.ops (many_turns _ ∙ many), start_many _ _ _ found.1.0 q.ops (many_turns _ ∙ many))
-
-  pub marks_fit : (q.first ≤ most_marks) × (most_marks ≤ length q.marks)
-  marks_fit =
-      let n = length-replicate {A = ℕ} most_marks nowhere in
-      let p = found.1.1 in
-      (omega (arith, p.0), omega (arith, n, end_long _ _ _ q.first (p.0 ∙ sym n) p.1))
+  pub marks_fit : q.first ≤ length q.marks
+  marks_fit = omega (arith, many_marks, found.1.1.0)
 
   pub handed_bad : (input : List ℕ) → (q.number ≡ 0 → ⊥) → (n : ℕ) (w : Tallied) → ended (BadFile q.number q.place) 0 w ≡ run_call s input n w
   handed_bad input z n w = run_bad s input answered loaded.0 z n w

@@ -2,31 +2,36 @@
 ghost use Rattle.std.specs.Prelude.{◌≡◌, ℕ};
 ghost use Rattle.partners.specs.Read.{patch_read};
 ghost use Rattle.busy.specs.Sums.{adds_up};
-ghost use Rattle.machine_step.specs.Held.{code};
-ghost use Rattle.machine.specs.Calls.{slices, lent, step_call, stepped_to, run_call, ran_to};
+ghost use Rattle.machine_step.specs.Held.{code_in};
+ghost use Rattle.machine.specs.Calls.{Slices, slices, lent, ended, step_call, stepped_to, run_call, ran_to};
 ghost use Rattle.machine_run.specs.Ready.{IsLoaded, IsRead};
 
 use crate::machine::{Machine, Ran, Stepped};
 use answers::run::Answer;
 use busy::sums::{adds_up, allowed_steps, total_after};
 use machine_run::going::go;
+use machine_step::columns::Columns;
 use partners::patch::Patch;
 use partners::scan::{NOWHERE, find_partners};
 use patch_reader::reader::load;
 use states::formed::is_formed;
 
 impl Machine {
+    // A call that ends before its first step.
+    pub(crate) fn refused(self, answer: Answer) -> Ran
+        ensures { (l : Slices) → ran_to result l ≡ ended answer 0 (lent self l) }
+    {
+        Ran {
+            answer,
+            steps: 0,
+            machine: self,
+        }
+    }
+
     // The run of a patch that is read, by its columns, where `stand` says whether the counts add up: the test of the state, then the steps.
     pub(crate) fn run_read(
         mut self,
-        rows: &[u8],
-        counts: &[u16],
-        needs: &[u16],
-        payloads: &[u32],
-        partners: &[u16],
-        turns: &[u16],
-        marks: &[u16],
-        bytes: &[u8],
+        code: &Columns,
         register: &mut [u64],
         tape: &mut [u64],
         table: &mut [u16],
@@ -37,50 +42,33 @@ impl Machine {
         stand: bool,
         budget: u32,
     ) -> Ran
-        requires { IsRead bytes.now (code rows.now counts.now needs.now payloads.now partners.now turns.now marks.now bytes.now) × (stand ≡ adds_up rows.now tally.old self.total) }
-        ensures { ran_to result (slices register.new tape.new table.new channel.new output.new tally.new) ≡ run_call bytes.now input.now budget (lent self (slices register.old tape.old table.old channel.old output.old tally.old)) }
+        requires read { IsRead code.now.bytes.now (code_in code.now) }
+        requires sums { stand ≡ adds_up code.now.rows.now tally.old self.total }
+        ensures { ran_to result (slices register.new tape.new table.new channel.new output.new tally.new) ≡ run_call code.now.bytes.now input.now budget (lent self (slices register.old tape.old table.old channel.old output.old tally.old)) }
     {
-        let h = self.numbers;
-        let mut calls = self.calls;
-        let mut refs = self.refs;
+        let inputs = input.len();
         if !is_formed(
-            h,
-            &calls,
-            &refs,
-            rows,
+            self.numbers,
+            &self.calls,
+            &self.refs,
+            code.rows,
             register,
             tape,
             table,
             channel,
             output,
-            input.len(),
+            inputs,
         ) {
-            return Ran {
-                answer: Answer::NotAState,
-                steps: 0,
-                machine: self,
-            };
+            return self.refused(Answer::NotAState);
         }
-        let total = self.total;
         if !stand {
-            return Ran {
-                answer: Answer::NotAState,
-                steps: 0,
-                machine: self,
-            };
+            return self.refused(Answer::NotAState);
         }
         let ended = go(
-            h,
-            rows,
-            counts,
-            needs,
-            payloads,
-            partners,
-            turns,
-            marks,
-            bytes,
-            &mut calls,
-            &mut refs,
+            self.numbers,
+            code,
+            &mut self.calls,
+            &mut self.refs,
             register,
             tape,
             table,
@@ -88,18 +76,13 @@ impl Machine {
             input,
             output,
             tally,
-            allowed_steps(budget, total),
+            allowed_steps(budget, self.total),
         );
-        let answer = ended.answer;
-        let made = ended.steps;
-        let left = ended.numbers;
-        self.numbers = left;
-        self.calls = calls;
-        self.refs = refs;
-        self.total = total_after(total, made);
+        self.numbers = ended.numbers;
+        self.total = total_after(self.total, ended.steps);
         Ran {
-            answer,
-            steps: made,
+            answer: ended.answer,
+            steps: ended.steps,
             machine: self,
         }
     }
@@ -122,7 +105,8 @@ impl Machine {
         stand: bool,
         budget: u32,
     ) -> Ran
-        requires { IsLoaded bytes.now rows.now counts.now needs.now payloads.now × (stand ≡ adds_up rows.now tally.old self.total) }
+        requires loaded { IsLoaded bytes.now rows.now counts.now needs.now payloads.now }
+        requires sums { stand ≡ adds_up rows.now tally.old self.total }
         ensures { ran_to result (slices register.new tape.new table.new channel.new output.new tally.new) ≡ run_call bytes.now input.now budget (lent self (slices register.old tape.old table.old channel.old output.old tally.old)) }
     {
         let mut partners = [NOWHERE; Machine::OPS];
@@ -130,24 +114,18 @@ impl Machine {
         let mut marks = [NOWHERE; Machine::MARKS];
         let first = find_partners(rows, &mut partners, &mut turns, &mut marks);
         let n = rows.len();
-        self.run_read(
+        let code = Columns {
             rows,
             counts,
             needs,
             payloads,
-            &partners[..n],
-            &turns[..n],
-            &marks[first..],
+            partners: &partners[..n],
+            turns: &turns[..n],
+            marks: &marks[first..],
             bytes,
-            register,
-            tape,
-            table,
-            channel,
-            input,
-            output,
-            tally,
-            stand,
-            budget,
+        };
+        self.run_read(
+            &code, register, tape, table, channel, input, output, tally, stand, budget,
         )
     }
 
@@ -173,11 +151,7 @@ impl Machine {
         let read = load(bytes, &mut rows, &mut counts, &mut needs, &mut payloads);
         let number = read.number;
         if number != 0 {
-            return Ran {
-                answer: Answer::BadFile(number, read.place),
-                steps: 0,
-                machine: self,
-            };
+            return self.refused(Answer::BadFile(number, read.place));
         }
         let n = read.ops;
         let stand = adds_up(&rows[..n], tally, self.total);
@@ -218,46 +192,28 @@ impl Machine {
     {
         let number = patch.number;
         if number != 0 {
-            return Ran {
-                answer: Answer::BadFile(number, patch.place),
-                steps: 0,
-                machine: self,
-            };
+            return self.refused(Answer::BadFile(number, patch.place));
         }
         let n = patch.ops;
-        let first = patch.first;
-        let rows = patch.rows;
-        let counts = patch.counts;
-        let needs = patch.needs;
-        let payloads = patch.payloads;
-        let partners = patch.partners;
-        let turns = patch.turns;
-        let marks = patch.marks;
-        let stand = adds_up(&rows[..n], tally, self.total);
-        self.run_read(
-            &rows[..n],
-            &counts[..n],
-            &needs[..n],
-            &payloads[..n],
-            &partners[..n],
-            &turns[..n],
-            &marks[first..],
+        let code = Columns {
+            rows: &patch.rows[..n],
+            counts: &patch.counts[..n],
+            needs: &patch.needs[..n],
+            payloads: &patch.payloads[..n],
+            partners: &patch.partners[..n],
+            turns: &patch.turns[..n],
+            marks: &patch.marks[patch.first..],
             bytes,
-            register,
-            tape,
-            table,
-            channel,
-            input,
-            output,
-            tally,
-            stand,
-            budget,
+        };
+        let stand = adds_up(code.rows, tally, self.total);
+        self.run_read(
+            &code, register, tape, table, channel, input, output, tally, stand, budget,
         )
     }
 
     // One step: a run of at most one. Where none was made its answer says why.
     pub fn step(
-        mut self,
+        self,
         bytes: &[u8],
         register: &mut [u64],
         tape: &mut [u64],
@@ -269,21 +225,17 @@ impl Machine {
     ) -> Stepped
         ensures { stepped_to result (slices register.new tape.new table.new channel.new output.new tally.new) ≡ step_call bytes.now input.now (lent self (slices register.old tape.old table.old channel.old output.old tally.old)) }
     {
-        let r = self.run(
+        let ran = self.run(
             bytes, register, tape, table, channel, input, output, tally, 1,
         );
-        let answer = r.answer;
-        let next = r.machine;
-        self = next;
-        if r.steps == 0 {
-            return Stepped {
-                answer,
-                machine: self,
-            };
-        }
+        let answer = if ran.steps == 0 {
+            ran.answer
+        } else {
+            Answer::Went
+        };
         Stepped {
-            answer: Answer::Went,
-            machine: self,
+            answer,
+            machine: ran.machine,
         }
     }
 }

@@ -33,26 +33,14 @@ impl Machine {
         let read = load(bytes, &mut rows, &mut counts, &mut needs, &mut payloads);
         let number = read.number;
         if number != 0 {
-            return Ran {
-                answer: Answer::BadFile(number, read.place),
-                steps: 0,
-                machine: m,
-            };
+            return m.refused(Answer::BadFile(number, read.place));
         }
         if !can_start(mode, register, table, channel) {
-            return Ran {
-                answer: Answer::NotAState,
-                steps: 0,
-                machine: m,
-            };
+            return m.refused(Answer::NotAState);
         }
         let n = read.ops;
         if tally.len() != n {
-            return Ran {
-                answer: Answer::NotAState,
-                steps: 0,
-                machine: m,
-            };
+            return m.refused(Answer::NotAState);
         }
         let cells = tape.len();
         zero(register, Machine::LANES);

@@ -1,5 +1,5 @@
 -- The machine's numbers with one of them changed, and what each family of ops may change. Assumes nothing.
-use Rattle.std.specs.Prelude.{Bool, true, false, List, ℕ, ◌+◌, ◌-◌, ◌*◌, ◌/◌, ◌%◌, eqb, ltb}
+use Rattle.std.specs.Prelude.{Bool, true, List, ℕ, ◌+◌, ◌-◌, ◌*◌, ◌/◌, ◌%◌, eqb, ltb}
 use Rattle.basics.specs.Pick.{pick}
 use Rattle.machine_numbers.specs.declared.numbers.Numbers.{Numbers}
 
@@ -53,15 +53,6 @@ lacking n l p = record { number = n; lane = l; numbers = p }
 
 abbrev pub answered : ℕ → Numbers → OpAnswer
 answered n p = lacking n 0 p
-
--- the numbers, one by one
-abbrev pub gathered : ℕ → ℕ → ℕ → ℕ → ℕ → ℕ → ℕ → ℕ → ℕ → ℕ → ℕ → Bool → ℕ → Numbers
-gathered d s p q l n f i w t o h m =
-    record { depth = d; saved = s; pointer = p; position = q; length = l; lanes = n; functions = f; first = i; waiting = w; taken = t; written = o; halted = h; mode = m }
-
--- those of a machine that is not halted
-abbrev pub running : ℕ → ℕ → ℕ → ℕ → ℕ → ℕ → ℕ → ℕ → ℕ → ℕ → ℕ → ℕ → Numbers
-running d s p q l n f i w t o m = gathered d s p q l n f i w t o false m
 
 -- what an op answers that is done and goes on to the next op, one that has set the position, and a Return that halts; a refused one answers the
 -- refusal's number, and the lane in the same number

@@ -1,6 +1,4 @@
 // The machine's numbers.
-ghost use Rattle.std.specs.Prelude.{◌≡◌};
-ghost use Rattle.machine_numbers.specs.Numbers.{gathered};
 
 // The sign's bit: a lane or cell of at least this has a negative integer.
 pub const SIGN: u64 = 0x8000000000000000;
@@ -48,39 +46,4 @@ impl Numbers {
     pub const CALLS: usize = 256;
 
     pub const REFS: usize = 256;
-
-    // The numbers, gathered after a run has had them one by one.
-    pub fn gather(
-        depth: usize,
-        saved: usize,
-        pointer: usize,
-        position: usize,
-        length: usize,
-        lanes: usize,
-        functions: usize,
-        first: usize,
-        waiting: usize,
-        taken: usize,
-        written: usize,
-        halted: bool,
-        mode: u32,
-    ) -> Numbers
-        ensures { result ≡ gathered depth saved pointer position length lanes functions first waiting taken written halted mode }
-    {
-        Numbers {
-            depth,
-            saved,
-            pointer,
-            position,
-            length,
-            lanes,
-            functions,
-            first,
-            waiting,
-            taken,
-            written,
-            halted,
-            mode,
-        }
-    }
 }

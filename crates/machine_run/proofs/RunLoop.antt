@@ -22,7 +22,7 @@ use Rattle.machine_model.specs.Step.{Outcome, step}
 use Rattle.machine_model.proofs.Passing.{past_on, past_here, bits_beyond}
 use Rattle.partners.specs.Columns.{Stored}
 use Rattle.machine_numbers.specs.declared.numbers.Numbers.{Numbers}
-use Rattle.machine_numbers.specs.Numbers.{OpAnswer, answered, halt, halting, refused_by, gathered, running, stepped}
+use Rattle.machine_numbers.specs.Numbers.{OpAnswer, answered, halt, halting, refused_by, stepped}
 use Rattle.busy.specs.Sums.{most_steps, raised, sum}
 use Rattle.busy.proofs.SumLaws.{sum_raised, one_of_sum}
 use Rattle.machine_step.specs.Held.{Held, held, After, after, Code}
@@ -205,15 +205,9 @@ module _ (s input : List ℕ) (x : Code) (c : Held) (h : ReadyToRun s input x c)
 
 -- ---- the loop of `go`
 
--- after some steps, with so many left: what is held is good and well formed, in slices as long as they were, and what the run goes on to from here
--- is what it comes to from the start
+-- after some steps, with so many left: what is held is good and well formed, and what the run goes on to from here is what it comes to from the start
 pub record Going (rest : Held → Ran) (s input : List ℕ) (x : Code) (budget : ℕ) (from c : Held) (left : ℕ) : Type 0 where
   pub ready : ReadyToRun s input x c
-  pub register : length c.register ≡ length from.register
-  pub tape : length c.tape ≡ length from.tape
-  pub table : length c.table ≡ length from.table
-  pub channel : length c.channel ≡ length from.channel
-  pub output : length c.output ≡ length from.output
   pub within : left ≤ budget
   pub same : rest c ≡ run_of budget 0 x input from
 
@@ -228,7 +222,7 @@ Driving s input x budget from c left = Going (drive_of left (budget - left) x in
 pub begin : {s input : List ℕ} {x : Code} {c : Held} (budget : ℕ) → ReadyToRun s input x c → Running s input x budget c c budget
 begin budget h =
     let z : budget - budget ≡ 0 = omega arith in
-    record { ready = h; register = refl; tape = refl; table = refl; channel = refl; output = refl; within = omega arith; same = rw z refl }
+    record { ready = h; within = omega arith; same = rw z refl }
 
 -- a comment is passed, and no step is counted
 module _ {s input : List ℕ} {x : Code} {budget : ℕ} {from c : Held} {left : ℕ} (i : Running s input x budget from c left) (run : c.numbers.halted ≡ false) where
@@ -239,11 +233,6 @@ module _ {s input : List ℕ} {x : Code} {budget : ℕ} {from c : Held} {left : 
       let within : c.numbers.position + 1 ≤ length (code_of s).rows = omega (arith, ap (λ (y : Code). length y.rows) i.ready.read) in
       record {
         ready = record { good = i.ready.good; read = i.ready.read; fits = standing_fits s input _ c i.ready.fits within };
-        register = i.register;
-        tape = i.tape;
-        table = i.table;
-        channel = i.channel;
-        output = i.output;
         within = i.within;
         same = ap (λ (d : Held). drive_of left (budget - left) x input d) (one_first x c run h z) ∙ i.same;
       }
@@ -254,11 +243,6 @@ module _ {s input : List ℕ} {x : Code} {budget : ℕ} {from c : Held} {left : 
   settled e =
       record {
         ready = i.ready;
-        register = i.register;
-        tape = i.tape;
-        table = i.table;
-        channel = i.channel;
-        output = i.output;
         within = i.within;
         same = ap (λ (d : Held). drive_of left (budget - left) x input d) (sym e) ∙ i.same;
       }
@@ -283,17 +267,11 @@ module _ {s input : List ℕ} {x : Code} {budget : ℕ} {from c : Held} {left : 
 
     -- and on
     module _ (b : Bytes s) (a : o.number ≡ 0) where
-      pub onward : length o.held.register ≡ length c.register → length o.held.tape ≡ length c.tape → length o.held.table ≡ length c.table
-          → length o.held.channel ≡ length c.channel → length o.held.output ≡ length c.output → Running s input x budget from o.held (left - 1)
-      onward g t ts ch w =
+      pub onward : Running s input x budget from o.held (left - 1)
+      onward =
           let k : budget - (left - 1) ≡ budget - left + 1 = omega (arith, i.within, z) in
           record {
             ready = going_on s input x c i.ready e o q b a;
-            register = g ∙ i.register;
-            tape = t ∙ i.tape;
-            table = ts ∙ i.table;
-            channel = ch ∙ i.channel;
-            output = w ∙ i.output;
             within = omega (arith, i.within);
             same = rw k (drive_on x input c e o q left (budget - left) z a ∙ i.same);
           }
@@ -326,7 +304,6 @@ module _ (x : Code) (input : List ℕ) (c : Held) (cs : List ℕ) where
 -- makes of those at the start
 pub record Tallying (rest : Held → List ℕ → List ℕ) (x : Code) (input : List ℕ) (budget : ℕ) (from : Held) (first : List ℕ) (c : Held) (cs : List ℕ) (left : ℕ) : Type 0 where
   pub each : length cs ≡ length x.rows
-  pub long : length cs ≡ length first
   pub low : sum cs + left ≤ most_steps
   pub same : rest c cs ≡ run_counts_of budget x input from first
 
@@ -339,7 +316,7 @@ module _ {x : Code} {input : List ℕ} {budget : ℕ} {from : Held} {first : Lis
       → Counting x input budget from first (standing c (c.numbers.position + 1)) cs left
   unfolding run_counts_of
   counts_passing h z =
-      record { each = i.each; long = i.long; low = i.low; same = ap (λ (d : Held). drive_counts_of left x input d cs) (one_first x c run h z) ∙ i.same }
+      record { each = i.each; low = i.low; same = ap (λ (d : Held). drive_counts_of left x input d cs) (one_first x c run h z) ∙ i.same }
 
   counts_settled : past_in x c ≡ c → drive_counts_of left x input c cs ≡ run_counts_of budget x input from first
   unfolding run_counts_of
@@ -366,7 +343,6 @@ module _ {x : Code} {input : List ℕ} {budget : ℕ} {from : Held} {first : Lis
           let e = length-set cs c.numbers.position (get_or cs c.numbers.position 0 + 1) in
           record {
             each = e ∙ i.each;
-            long = e ∙ i.long;
             low = omega (arith, i.low, z, sum_raised cs c.numbers.position (can_raise z).there);
             same = counts_on x input c cs (over_before c.numbers _ run h) o q left z a ∙ at_this;
           }
@@ -382,7 +358,7 @@ module _ {x : Code} {input : List ℕ} {budget : ℕ} {from : Held} {first : Lis
       counts_refused_at a = sym (counts_refused x input c cs (over_before c.numbers _ run h) o q left a) ∙ at_this
 
 pub counting_at_first : {x : Code} {input : List ℕ} {budget : ℕ} {c : Held} {cs : List ℕ} → ReadyToCount x.rows cs budget → Counting x input budget c cs c cs budget
-counting_at_first h = record { each = h.each; long = refl; low = h.low; same = refl }
+counting_at_first h = record { each = h.each; low = h.low; same = refl }
 
 -- the measure: a comment passed leaves fewer ops ahead, and a step made fewer steps
 abbrev pub ahead : ℕ → ℕ → ℕ → ℕ
@@ -429,21 +405,25 @@ module _ (a : ℕ) (e : a ≡ 0) where
   unfolding counted_by made_by pick
   counted_on i cs q = rw (q, e) refl
 
+-- the numbers p of a machine that is halted or not
+abbrev pub as_halted : Numbers → Bool → Numbers
+as_halted p h =
+    record { depth = p.depth; saved = p.saved; pointer = p.pointer; position = p.position; length = p.length; lanes = p.lanes; functions = p.functions; first = p.first; waiting = p.waiting; taken = p.taken; written = p.written; halted = h; mode = p.mode }
+
 -- a step that answers a, which is not `done`, is the last
 pub stopped_at : {s input : List ℕ} {x : Code} {budget : ℕ} {from c : Held} {left : ℕ} → Driving s input x budget from c left → over_of c.numbers (length x.rows) ≡ false
-    → (left ≡ 0 → ⊥) → {a d v p q l n f i w t o y : ℕ} {cs rs g ta ts ch out : List ℕ}
-    → after (stepped a (running d v p q l n f i w t o y)) cs rs g ta ts ch out ≡ step_of x input c → (a ≡ 0 → ⊥)
-    → {r : Answer} {k : ℕ} {m : Numbers} → r ≡ ended_by a → k ≡ made_by a → m ≡ gathered d v p q l n f i w t o (eqb a halting) y
-    → ran r (budget - (left - k)) (held m cs rs g ta ts ch out) ≡ run_of budget 0 x input from
+    → (left ≡ 0 → ⊥) → {a : ℕ} {p : Numbers} {cs rs g ta ts ch out : List ℕ} → p.halted ≡ false
+    → after (stepped a p) cs rs g ta ts ch out ≡ step_of x input c → (a ≡ 0 → ⊥)
+    → {r : Answer} {k : ℕ} → r ≡ ended_by a → k ≡ made_by a
+    → ran r (budget - (left - k)) (held (as_halted p (eqb a halting)) cs rs g ta ts ch out) ≡ run_of budget 0 x input from
 unfolding ended_by made_by pick
-stopped_at {s} {input} {x} {budget} {c = c} {left = left} run e z {a} {d} {v} {p} {q} {l} {n} {f} {i} {w} {t} {o} {y} b h er ek em =
-    let m = running d v p q l n f i w t o y in
+stopped_at {s} {input} {x} {budget} {c = c} {left = left} run e z {a} {p} n b h er ek =
     by_case (eqb a 2)
     (λ j. let u : budget - (left - 1) ≡ budget - left + 1 = omega (arith, run.within, z) in
-    rw (er, ek, em, ne_eqb a 0 h, j, u) (halted_at run e z _ (as_answered (halted a m (eqb-true a 2 j)) b) refl refl))
-    (λ j. let b = as_answered (refused a m (eqb-false a 2 j)) b in
+    rw (er, ek, ne_eqb a 0 h, j, u) (halted_at run e z _ (as_answered (halted a p (eqb-true a 2 j)) b) refl refl))
+    (λ j. let b = as_answered (refused a p (eqb-false a 2 j)) b in
     let u : budget - (left - 0) ≡ budget - left = omega arith in
-    rw (er, ek, em, ne_eqb a 0 h, j, u) (refused_at run e z _ b (λ r. h (let k = went_whole s input x c run.ready e _ b r in omega (arith, r, k)))))
+    rw (er, ek, ne_eqb a 0 h, j, u, ← n) (refused_at run e z _ b (λ r. h (let k = went_whole s input x c run.ready e _ b r in omega (arith, r, k)))))
 
 -- and its counts
 pub counts_stopped_at : {s input : List ℕ} {x : Code} {budget : ℕ} {from c : Held} {left : ℕ} → Driving s input x budget from c left → over_of c.numbers (length x.rows) ≡ false
@@ -457,29 +437,3 @@ counts_stopped_at {s} {input} {x} {c = c} run e i r h k z a m b u el =
     (λ g. rw (el, ne_eqb a 0 u, g) (counts_halted_at i r h k z _ (as_answered (halted a m (eqb-true a 2 g)) b) refl refl))
     (λ g. let b = as_answered (refused a m (eqb-false a 2 g)) b in
     rw (el, ne_eqb a 0 u, g) (counts_refused_at i r h k z _ b (λ q. u (let w = went_whole s input x c run.ready e _ b q in omega (arith, q, w)))))
-
--- ---- the numbers of a machine that is not halted, one by one
-
-abbrev pub opened : Held → Held
-opened c =
-    let p = c.numbers in
-    held (running p.depth p.saved p.pointer p.position p.length p.lanes p.functions p.first p.waiting p.taken p.written p.mode)
-    c.calls c.refs c.register c.tape c.table c.channel c.output
-
-same_opened : (c : Held) → c.numbers.halted ≡ false → c ≡ opened c
-same_opened c e =
-    let p = c.numbers in
-    let so = gathered p.depth p.saved p.pointer p.position p.length p.lanes p.functions p.first p.waiting p.taken p.written in
-    ap (λ (h : Bool). held (so h p.mode) c.calls c.refs c.register c.tape c.table c.channel c.output) e
-
-pub open_at_first : {s input : List ℕ} {x : Code} {c : Held} (budget : ℕ) → ReadyToRun s input x c → c.numbers.halted ≡ false
-    → Running s input x budget (opened c) (opened c) budget
-open_at_first {s} {input} {x} {c} budget h e = begin budget (subst (λ (d : Held). ReadyToRun s input x d) (same_opened c e) h)
-
-pub counts_from_first : (x : Code) (input : List ℕ) (budget : ℕ) (c : Held) (first cs : List ℕ) → c.numbers.halted ≡ false
-    → cs ≡ run_counts_of budget x input (opened c) first → cs ≡ run_counts_of budget x input c first
-counts_from_first x input budget c first cs e w = w ∙ ap (λ (d : Held). run_counts_of budget x input d first) (sym (same_opened c e))
-
-pub from_first : (x : Code) (input : List ℕ) (budget : ℕ) (c : Held) (r : Ran) → c.numbers.halted ≡ false
-    → r ≡ run_of budget 0 x input (opened c) → r ≡ run_of budget 0 x input c
-from_first x input budget c r e w = w ∙ ap (λ (d : Held). run_of budget 0 x input d) (sym (same_opened c e))

@@ -1,12 +1,14 @@
 // The steps of a patch that is read: one inner step after the other, until they end.
 ghost use Rattle.std.specs.Prelude.{◌≡◌};
-ghost use Rattle.machine_step.specs.Held.{held, code};
+ghost use Rattle.machine_step.specs.Held.{held, code_in};
 ghost use Rattle.bridge.specs.Run.{ran, run_of, run_counts_of};
 ghost use Rattle.machine_run.specs.Ready.{ReadyToRun, ReadyToCount, CanRaise, ended_by, made_by, counted_by};
 
 use answers::run::Answer;
 use kind_table::row;
 use machine_numbers::numbers::{DONE, HALTED, NUMBERS, Numbers};
+use machine_step::columns::Columns;
+use machine_step::step::step;
 
 // What the steps leave beside the stacks and the slices.
 #[derive(Clone, Copy)]
@@ -52,14 +54,7 @@ fn raise_made(tally: &mut [u64], at: usize, a: u32)
 // Steps until the machine is finished, the budget is spent or a step is refused. Each step made raises the count of its op. A comment is passed, also when the budget is spent, and is no step.
 pub fn go(
     numbers: Numbers,
-    rows: &[u8],
-    counts: &[u16],
-    needs: &[u16],
-    payloads: &[u32],
-    partners: &[u16],
-    turns: &[u16],
-    marks: &[u16],
-    bytes: &[u8],
+    code: &Columns,
     calls: &mut [u16; Numbers::CALLS],
     refs: &mut [u32; Numbers::REFS],
     register: &mut [u64],
@@ -71,105 +66,50 @@ pub fn go(
     tally: &mut [u64],
     budget: u32,
 ) -> Ended
-    requires { ReadyToRun bytes.now input.now (code rows.now counts.now needs.now payloads.now partners.now turns.now marks.now bytes.now) (held numbers calls.old refs.old register.old tape.old table.old channel.old output.old) × ReadyToCount rows.now tally.old budget }
-    ensures { (ran result.answer result.steps (held result.numbers calls.new refs.new register.new tape.new table.new channel.new output.new) ≡ run_of budget 0 (code rows.now counts.now needs.now payloads.now partners.now turns.now marks.now bytes.now) input.now (held numbers calls.old refs.old register.old tape.old table.old channel.old output.old)) × (tally.new ≡ run_counts_of budget (code rows.now counts.now needs.now payloads.now partners.now turns.now marks.now bytes.now) input.now (held numbers calls.old refs.old register.old tape.old table.old channel.old output.old) tally.old) }
+    requires ready { ReadyToRun code.now.bytes.now input.now (code_in code.now) (held numbers calls.old refs.old register.old tape.old table.old channel.old output.old) }
+    requires count { ReadyToCount code.now.rows.now tally.old budget }
+    ensures run { ran result.answer result.steps (held result.numbers calls.new refs.new register.new tape.new table.new channel.new output.new) ≡ run_of budget 0 (code_in code.now) input.now (held numbers calls.old refs.old register.old tape.old table.old channel.old output.old) }
+    ensures counts { tally.new ≡ run_counts_of budget (code_in code.now) input.now (held numbers calls.old refs.old register.old tape.old table.old channel.old output.old) tally.old }
 {
-    if numbers.halted {
+    let mut h = numbers;
+    if h.halted {
         return Ended {
             answer: Answer::Finished,
             steps: 0,
-            numbers,
+            numbers: h,
         };
     }
-    let mut depth = numbers.depth;
-    let mut saved = numbers.saved;
-    let mut pointer = numbers.pointer;
-    let mut position = numbers.position;
-    let mut counted = numbers.length;
-    let mut lanes = numbers.lanes;
-    let mut functions = numbers.functions;
-    let mut first = numbers.first;
-    let mut waiting = numbers.waiting;
-    let mut taken = numbers.taken;
-    let mut written = numbers.written;
-    let mode = numbers.mode;
     let mut left = budget;
     loop {
-        if rows.len() <= position {
+        if code.rows.len() <= h.position {
             return Ended {
                 answer: Answer::Finished,
                 steps: budget - left,
-                numbers: Numbers::gather(
-                    depth, saved, pointer, position, counted, lanes, functions, first, waiting,
-                    taken, written, false, mode,
-                ),
+                numbers: h,
             };
         }
-        if rows[position] == row::COMMENT {
-            position += 1;
+        if code.rows[h.position] == row::COMMENT {
+            h.position += 1;
         } else {
             if left == 0 {
                 return Ended {
                     answer: Answer::Spent,
                     steps: budget - left,
-                    numbers: Numbers::gather(
-                        depth, saved, pointer, position, counted, lanes, functions, first, waiting,
-                        taken, written, false, mode,
-                    ),
+                    numbers: h,
                 };
             }
-            let at = position;
-            let a = machine_step::step::step(
-                &mut position,
-                &mut pointer,
-                &mut counted,
-                &mut lanes,
-                &mut depth,
-                &mut saved,
-                &mut functions,
-                &mut first,
-                &mut waiting,
-                &mut taken,
-                &mut written,
-                mode,
-                rows,
-                counts,
-                needs,
-                payloads,
-                partners,
-                turns,
-                marks,
-                bytes,
-                calls,
-                refs,
-                register,
-                tape,
-                table,
-                channel,
-                input,
-                output,
+            let at = h.position;
+            let a = step(
+                &mut h, code, calls, refs, register, tape, table, channel, input, output,
             );
             raise_made(tally, at, a);
             left -= made_by(a);
             if a != DONE {
+                h.halted = a == HALTED;
                 return Ended {
                     answer: answer_of(a),
                     steps: budget - left,
-                    numbers: Numbers::gather(
-                        depth,
-                        saved,
-                        pointer,
-                        position,
-                        counted,
-                        lanes,
-                        functions,
-                        first,
-                        waiting,
-                        taken,
-                        written,
-                        a == HALTED,
-                        mode,
-                    ),
+                    numbers: h,
                 };
             }
         }

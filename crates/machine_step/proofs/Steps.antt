@@ -17,8 +17,7 @@ use Rattle.machine_step.specs.CanStep.{CanStep, CanOp}
 use Rattle.machine_step.specs.Step.{op_of, step_of}
 
 pub can_op : {x : Code} {c : Held} → CanStep x.rows c → PayloadsInBytes x → Stored x.rows x.partners x.turns x.marks
-    → CanOp (get_or x.rows c.numbers.position 0) (get_or x.counts c.numbers.position 0) (get_or x.payloads c.numbers.position 0)
-    x.rows x.partners x.turns x.marks x.bytes c
+    → CanOp (get_or x.rows c.numbers.position 0) (get_or x.counts c.numbers.position 0) (get_or x.payloads c.numbers.position 0) x c
 can_op {x} {c} s p t =
     let h = s.steers.here in
     let e = partner_at_lem x.rows x.partners t.partners c.numbers.position h in

@@ -4,7 +4,7 @@ use Rattle.basics.specs.Limits as limit
 use Rattle.partners.specs.Columns.{turns_of, functions_of}
 use Rattle.machine_numbers.specs.Asks.{PayloadIn}
 use Rattle.control_ops.specs.CanSteer.{CanSteer, Steers}
-use Rattle.machine_step.specs.Held.{Held}
+use Rattle.machine_step.specs.Held.{Held, Code}
 
 pub record CanStep (ks : List ℕ) (c : Held) : Type 0 where
   pub steers : CanSteer c.numbers ks c.calls c.register c.table
@@ -13,10 +13,10 @@ pub record CanStep (ks : List ℕ) (c : Held) : Type 0 where
   pub near : c.numbers.pointer ≤ limit.farthest
   pub short : c.numbers.length ≤ limit.longest
 
--- and what its op asks: of row k, it counts n and has its payload at byte a, and the columns hold the places that the searches find
-pub record CanOp (k n a : ℕ) (ks ps ts fs bs : List ℕ) (c : Held) : Type 0 where
-  pub step : CanStep ks c
-  pub payload : PayloadIn k n a bs
-  pub steers : Steers k c.numbers.position ks ps
-  pub turns : ts ≡ turns_of ks
-  pub marks : fs ≡ functions_of ks
+-- and what its op asks of the patch x: of row k, it counts n and has its payload at byte a, and the columns hold the places that the searches find
+pub record CanOp (k n a : ℕ) (x : Code) (c : Held) : Type 0 where
+  pub step : CanStep x.rows c
+  pub payload : PayloadIn k n a x.bytes
+  pub steers : Steers k c.numbers.position x.rows x.partners
+  pub turns : x.turns ≡ turns_of x.rows
+  pub marks : x.marks ≡ functions_of x.rows

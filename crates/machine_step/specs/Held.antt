@@ -1,6 +1,7 @@
 -- All that a machine has and is lent, and a patch as the machine reads it. Assumes nothing.
 use Rattle.std.specs.Prelude.{List, ℕ}
 use Rattle.machine_numbers.specs.declared.numbers.Numbers.{Numbers}
+use Rattle.machine_step.specs.declared.columns.Columns.{Columns}
 use Rattle.machine_numbers.specs.Numbers.{Steered, OneList, Swapped, Taped, Told, OpAnswer}
 
 -- the machine's numbers, its stacks, and the slices that its steps may change
@@ -58,3 +59,8 @@ pub record Code : Type 0 where
 abbrev pub code : List ℕ → List ℕ → List ℕ → List ℕ → List ℕ → List ℕ → List ℕ → List ℕ → Code
 code ks ns ds ps es ts fs bs =
     record { rows = ks; counts = ns; needs = ds; payloads = ps; partners = es; turns = ts; marks = fs; bytes = bs }
+
+-- what is lent of it
+abbrev pub code_in : Columns → Code
+code_in x =
+    code x.rows.now x.counts.now x.needs.now x.payloads.now x.partners.now x.turns.now x.marks.now x.bytes.now

@@ -1,13 +1,13 @@
-// One step: the op at the position, once its lanes are there. The machine's numbers are lent, each by itself.
+// One step: the op at the position, once its lanes are there. The machine's numbers are lent as one, and a family's op those of them that it changes.
 ghost use Rattle.std.specs.Prelude.{◌≡◌};
-ghost use Rattle.machine_numbers.specs.Numbers.{running, left, stepped};
+ghost use Rattle.machine_numbers.specs.Numbers.{left, stepped};
 ghost use Rattle.partners.specs.Columns.{Stored};
-ghost use Rattle.machine_step.specs.Held.{held, after, code};
+ghost use Rattle.machine_step.specs.Held.{held, after, code_in};
 ghost use Rattle.machine_step.specs.Step.{op_of, step_of};
 ghost use Rattle.machine_step.specs.Payloads.{PayloadsInBytes};
 ghost use Rattle.machine_step.specs.CanStep.{CanStep, CanOp};
 
-use basics::wide::{wide_int, wide_short};
+use crate::columns::Columns;
 use byte_fields::read::u64_at;
 use control_ops::control;
 use device_ops::device;
@@ -19,28 +19,14 @@ use ops::op::{binding_at, mode_at};
 use tape_ops::tape;
 
 // The op at the position: of row k, it counts n and its payload is at byte a. Each row has its arm, those of the lane ops in `lane_op`, whose match goes
-// on where this one ends; of the two the compiler makes one jump.
+// on where this one ends; of the two the compiler makes one jump. The slices that an op may write are lent each by itself: a struct of them needs a
+// clause on each of its references.
 fn op(
     k: u8,
     n: usize,
     a: usize,
-    position: &mut usize,
-    pointer: &mut usize,
-    counted: &mut usize,
-    lanes: &mut usize,
-    depth: &mut usize,
-    saved: &mut usize,
-    functions: &mut usize,
-    first: &mut usize,
-    waiting: &mut usize,
-    taken: &mut usize,
-    written: &mut usize,
-    mode: u32,
-    rows: &[u8],
-    partners: &[u16],
-    turns: &[u16],
-    marks: &[u16],
-    bytes: &[u8],
+    h: &mut Numbers,
+    code: &Columns,
     calls: &mut [u16; Numbers::CALLS],
     refs: &mut [u32; Numbers::REFS],
     register: &mut [u64],
@@ -50,46 +36,70 @@ fn op(
     input: &[u64],
     output: &mut [u64],
 ) -> u32
-    requires { CanOp k n a rows.now partners.now turns.now marks.now bytes.now (held (running depth.old saved.old pointer.old position.old counted.old lanes.old functions.old first.old waiting.old taken.old written.old mode) calls.old refs.old register.old tape.old table.old channel.old output.old) }
-    ensures { after (left result position.old (running depth.new saved.new pointer.new position.new counted.new lanes.new functions.new first.new waiting.new taken.new written.new mode)) calls.new refs.new register.new tape.new table.new channel.new output.new ≡ op_of k n a rows.now bytes.now input.now (held (running depth.old saved.old pointer.old position.old counted.old lanes.old functions.old first.old waiting.old taken.old written.old mode) calls.old refs.old register.old tape.old table.old channel.old output.old) }
+    requires { CanOp k n a (code_in code.now) (held h.old calls.old refs.old register.old tape.old table.old channel.old output.old) }
+    ensures halted { h.new.halted ≡ h.old.halted }
+    ensures done { after (left result h.old.position h.new) calls.new refs.new register.new tape.new table.new channel.new output.new ≡ op_of k n a code.now.rows.now code.now.bytes.now input.now (held h.old calls.old refs.old register.old tape.old table.old channel.old output.old) }
 {
-    let at = *position;
+    let at = h.position;
     match k % 64 {
         row::COMMENT => DONE,
-        row::SET => tape::set(n, a, lanes, register, bytes),
-        row::FUNCTION => control::function(at, position, functions, rows, partners, table),
-        row::CALL => control::call(
-            at, mode, position, depth, functions, rows, marks, calls, register, table,
+        row::SET => tape::set(n, a, &mut h.lanes, register, code.bytes),
+        row::FUNCTION => control::function(
+            at,
+            &mut h.position,
+            &mut h.functions,
+            code.rows,
+            code.partners,
+            table,
         ),
-        row::RETURN => control::ret(at, position, depth, calls),
-        row::WHILE => control::while_op(at, position, rows, partners, register),
-        row::IF => control::if_op(at, position, rows, partners, turns, register),
-        row::ELSE => control::else_op(at, position, rows, partners),
-        row::END => control::end(at, position, rows, partners, register),
-        row::STORE => tape::store(n, *pointer, counted, register, tape),
-        row::LOAD => tape::load(n, *pointer, counted, lanes, register, tape),
+        row::CALL => control::call(
+            at,
+            h.mode,
+            &mut h.position,
+            &mut h.depth,
+            &mut h.functions,
+            code.rows,
+            code.marks,
+            calls,
+            register,
+            table,
+        ),
+        row::RETURN => control::ret(at, &mut h.position, &mut h.depth, calls),
+        row::WHILE => control::while_op(at, &mut h.position, code.rows, code.partners, register),
+        row::IF => control::if_op(
+            at,
+            &mut h.position,
+            code.rows,
+            code.partners,
+            code.turns,
+            register,
+        ),
+        row::ELSE => control::else_op(at, &mut h.position, code.rows, code.partners),
+        row::END => control::end(at, &mut h.position, code.rows, code.partners, register),
+        row::STORE => tape::store(n, h.pointer, &mut h.length, register, tape),
+        row::LOAD => tape::load(n, h.pointer, &mut h.length, &mut h.lanes, register, tape),
         row::MOVE => {
-            let by = u64_at(bytes, a);
-            tape::move_op(by, pointer)
+            let by = u64_at(code.bytes, a);
+            tape::move_op(by, &mut h.pointer)
         },
-        row::WHERE => tape::where_op(*pointer, register),
-        row::DEREF => tape::deref(pointer, counted, saved, refs, tape),
-        row::REFER => tape::refer(pointer, saved, refs),
+        row::WHERE => tape::where_op(h.pointer, register),
+        row::DEREF => tape::deref(&mut h.pointer, &mut h.length, &mut h.saved, refs, tape),
+        row::REFER => tape::refer(&mut h.pointer, &mut h.saved, refs),
         row::OFFSET => {
-            let by = u64_at(bytes, a);
+            let by = u64_at(code.bytes, a);
             lane::offset(by, n, register)
         },
-        row::SWAP => lane::swap(n, *pointer, *counted, register, tape),
+        row::SWAP => lane::swap(n, h.pointer, h.length, register, tape),
         row::GET => {
-            let mode = mode_at(bytes, a);
-            device::get(mode, taken, register, input)
+            let mode = mode_at(code.bytes, a);
+            device::get(mode, &mut h.taken, register, input)
         },
         row::PUT => {
-            let mode = mode_at(bytes, a);
-            device::put(mode, written, register, output)
+            let mode = mode_at(code.bytes, a);
+            device::put(mode, &mut h.written, register, output)
         },
-        row::STANDARD_SET => tape::set(n, a, lanes, register, bytes),
-        row::ALLOC => tape::alloc(counted, register),
+        row::STANDARD_SET => tape::set(n, a, &mut h.lanes, register, code.bytes),
+        row::ALLOC => tape::alloc(&mut h.length, register),
         row::FREE => DONE,
         row::SIN => DONE,
         row::COS => DONE,
@@ -98,37 +108,20 @@ fn op(
         row::A_COS => DONE,
         row::A_TAN => DONE,
         row::POW => DONE,
-        row::PEEK => device::peek(first, waiting, register, channel),
-        row::POKE => device::poke(*first, waiting, register, channel),
+        row::PEEK => device::peek(&mut h.first, &mut h.waiting, register, channel),
+        row::POKE => device::poke(h.first, &mut h.waiting, register, channel),
         row::STANDARD_CALL => {
-            let binding = binding_at(bytes, a);
-            device::ffi_call(binding, first, waiting, channel)
+            let binding = binding_at(code.bytes, a);
+            device::ffi_call(binding, &mut h.first, &mut h.waiting, channel)
         },
-        _ => lane::lane_op(k, n, *pointer, *counted, register, tape),
+        _ => lane::lane_op(k, n, h.pointer, h.length, register, tape),
     }
 }
 
+// Halting is an answer, and not yet among the numbers.
 pub fn step(
-    position: &mut usize,
-    pointer: &mut usize,
-    counted: &mut usize,
-    lanes: &mut usize,
-    depth: &mut usize,
-    saved: &mut usize,
-    functions: &mut usize,
-    first: &mut usize,
-    waiting: &mut usize,
-    taken: &mut usize,
-    written: &mut usize,
-    mode: u32,
-    rows: &[u8],
-    counts: &[u16],
-    needs: &[u16],
-    payloads: &[u32],
-    partners: &[u16],
-    turns: &[u16],
-    marks: &[u16],
-    bytes: &[u8],
+    h: &mut Numbers,
+    code: &Columns,
     calls: &mut [u16; Numbers::CALLS],
     refs: &mut [u32; Numbers::REFS],
     register: &mut [u64],
@@ -138,34 +131,35 @@ pub fn step(
     input: &[u64],
     output: &mut [u64],
 ) -> u32
-    requires { CanStep rows.now (held (running depth.old saved.old pointer.old position.old counted.old lanes.old functions.old first.old waiting.old taken.old written.old mode) calls.old refs.old register.old tape.old table.old channel.old output.old) × PayloadsInBytes (code rows.now counts.now needs.now payloads.now partners.now turns.now marks.now bytes.now) × Stored rows.now partners.now turns.now marks.now }
-    ensures { after (stepped result (running depth.new saved.new pointer.new position.new counted.new lanes.new functions.new first.new waiting.new taken.new written.new mode)) calls.new refs.new register.new tape.new table.new channel.new output.new ≡ step_of (code rows.now counts.now needs.now payloads.now partners.now turns.now marks.now bytes.now) input.now (held (running depth.old saved.old pointer.old position.old counted.old lanes.old functions.old first.old waiting.old taken.old written.old mode) calls.old refs.old register.old tape.old table.old channel.old output.old) }
+    requires can_step { CanStep code.now.rows.now (held h.old calls.old refs.old register.old tape.old table.old channel.old output.old) }
+    requires payloads { PayloadsInBytes (code_in code.now) }
+    requires stored { Stored code.now.rows.now code.now.partners.now code.now.turns.now code.now.marks.now }
+    ensures halted { h.new.halted ≡ h.old.halted }
+    ensures stepped { after (stepped result h.new) calls.new refs.new register.new tape.new table.new channel.new output.new ≡ step_of (code_in code.now) input.now (held h.old calls.old refs.old register.old tape.old table.old channel.old output.old) }
 {
-    let at = *position;
-    let d = wide_short(needs[at]);
-    let has = *lanes;
+    let at = h.position;
+    let d = usize::from(code.needs[at]);
+    let has = h.lanes;
     if has < d {
         return with_lane(21, has);
     }
-    let k = rows[at];
-    let n = wide_short(counts[at]);
-    let a = wide_int(payloads[at]);
+    let k = code.rows[at];
+    let n = usize::from(code.counts[at]);
+    let a = code.payloads[at] as usize;
     let r = op(
-        k, n, a, position, pointer, counted, lanes, depth, saved, functions, first, waiting, taken,
-        written, mode, rows, partners, turns, marks, bytes, calls, refs, register, tape, table,
-        channel, input, output,
+        k, n, a, h, code, calls, refs, register, tape, table, channel, input, output,
     );
     if r == DONE {
-        *position = at + 1;
+        h.position = at + 1;
         return DONE;
     }
     if r == JUMPED {
         return DONE;
     }
     if r == HALTED {
-        *position = at + 1;
+        h.position = at + 1;
         return HALTED;
     }
-    *position = at;
+    h.position = at;
     r
 }

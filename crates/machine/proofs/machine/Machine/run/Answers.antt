@@ -1,11 +1,13 @@
 -- `machine::machine::Machine::run` meets its contract. Assumes nothing.
+use mathlib.Core.Path.{◌∙◌}
 use Rattle.ops.specs.Patch.{row_in, count_in, need_in, payload_in}
 use Rattle.file_laws.proofs.Loaded.{part_fits, part_length}
 use Rattle.machine.proofs.Called.{run_bad, is_loaded}
 use Rattle.machine.proofs.machine.Machine.run.Goals as goal
 
 pub returns-then-number-ne0 : goal.returns-then-number-ne0
-returns-then-number-ne0 c = run_bad _ _ _ c.load-read.ensures.value c.if-number-ne0.true _ _
+returns-then-number-ne0 c =
+    c.refused.ensures _ ∙ run_bad _ _ _ c.load-read.ensures.value c.if-number-ne0.true _ _
 
 pub slice_bounds-rows-end : goal.slice_bounds-rows-end
 slice_bounds-rows-end c = part_fits _ _ c.load-read.ensures.value row_in _ _ c.load-read.ensures.rows_after
@@ -37,7 +39,7 @@ slice_bounds-payloads-end c = part_fits _ _ c.load-read.ensures.value payload_in
 pub slice_bounds-run_loaded-end-4 : goal.slice_bounds-run_loaded-end-4
 slice_bounds-run_loaded-end-4 c = part_length _ _ c.load-read.ensures.value payload_in _ _ c.load-read.ensures.payloads_after
 
-pub run_loaded-requires : goal.run_loaded-requires
-run_loaded-requires c =
+pub run_loaded-requires-clause-loaded : goal.run_loaded-requires-clause-loaded
+run_loaded-requires-clause-loaded c =
     let l = c.load-read.ensures in
-    (is_loaded _ _ _ _ _ _ _ _ _ _ (l.value, (l.rows_after, (l.counts_after, (l.needs_after, l.payloads_after)))) c.if-number-ne0.false, c.adds_up-stand.ensures)
+    is_loaded _ _ _ _ _ _ _ _ _ _ (l.value, (l.rows_after, (l.counts_after, (l.needs_after, l.payloads_after)))) c.if-number-ne0.false

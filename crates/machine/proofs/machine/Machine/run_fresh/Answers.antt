@@ -10,13 +10,16 @@ use Rattle.machine.proofs.Called.{is_loaded, fresh_bad, fresh_cramped, fresh_une
 use Rattle.machine.proofs.machine.Machine.run_fresh.Goals as goal
 
 pub returns-then-number-ne0 : goal.returns-then-number-ne0
-returns-then-number-ne0 c = fresh_bad _ _ _ c.load-read.ensures.value c.if-number-ne0.true _ _ c.fresh-m.ensures _ _
+returns-then-number-ne0 c =
+    c.refused.ensures _ ∙ fresh_bad _ _ _ c.load-read.ensures.value c.if-number-ne0.true _ _ c.fresh-m.ensures _ _
 
 pub returns-then-not-can_start : goal.returns-then-not-can_start
-returns-then-not-can_start c = fresh_cramped _ _ _ c.load-read.ensures.value c.if-number-ne0.false _ _ c.fresh-m.ensures _ _ c.can_start.ensures (ap not c.if-not-can_start.true) _
+returns-then-not-can_start c =
+    c.refused-then-not-can_start.ensures _ ∙ fresh_cramped _ _ _ c.load-read.ensures.value c.if-number-ne0.false _ _ c.fresh-m.ensures _ _ c.can_start.ensures (ap not c.if-not-can_start.true) _
 
 pub returns-then-tally-n : goal.returns-then-tally-n
-returns-then-tally-n c = fresh_uneven _ _ _ c.load-read.ensures.value c.if-number-ne0.false _ _ c.fresh-m.ensures _ _ c.can_start.ensures (ap not c.if-not-can_start.false) c.if-tally-n.true _
+returns-then-tally-n c =
+    c.refused-then-tally-n.ensures _ ∙ fresh_uneven _ _ _ c.load-read.ensures.value c.if-number-ne0.false _ _ c.fresh-m.ensures _ _ c.can_start.ensures (ap not c.if-not-can_start.false) c.if-tally-n.true _
 
 pub zero-requires : goal.zero-requires
 zero-requires c = (starts _ _ _ _ (sym c.can_start.ensures ∙ c.if-not-can_start.false)).1.wide
@@ -47,23 +50,15 @@ slice_bounds-run_loaded-end-4 c = part_length _ _ c.load-read.ensures.value payl
 
 pub run_loaded-requires : goal.run_loaded-requires
 run_loaded-requires c =
-    let l = c.load-read.ensures in (
-      is_loaded _ _ _ _ _ _ _ _ _ _ (l.value, (l.rows_after, (l.counts_after, (l.needs_after, l.payloads_after)))) c.if-number-ne0.false,
-      fresh_stands _ _ c.fresh-m.ensures _ _ _ _ c.if-tally-n.false (sym (part_length _ _ l.value row_in _ _ l.rows_after)) c.zero-3.ensures,
-    )
-
-pub shape_of-register : goal.shape_of-register
-shape_of-register c = omega (arith, c.register-2-1.given, c.register-1.given)
-
-pub shape_of-tape : goal.shape_of-tape
-shape_of-tape c = omega (arith, c.tape-2-1.given, c.tape-1.given)
-
-pub shape_of-tally : goal.shape_of-tally
-shape_of-tally c = omega (arith, c.tally-2-1.given, c.tally-1.given)
+    let l = c.load-read.ensures in
+    record {
+      loaded = is_loaded _ _ _ _ _ _ _ _ _ _ (l.value, (l.rows_after, (l.counts_after, (l.needs_after, l.payloads_after)))) c.if-number-ne0.false;
+      sums = fresh_stands _ _ c.fresh-m.ensures _ _ _ _ c.if-tally-n.false (sym (part_length _ _ l.value row_in _ _ l.rows_after)) c.zero-3.ensures;
+    }
 
 pub returns : goal.returns
 returns c =
     let d = slices c.args.register.now c.args.tape.now c.args.table.now c.args.channel.now c.args.output.now c.args.tally.now in
     c.run_loaded.ensures
     ∙ fresh_called _ _ _ c.load-read.ensures.value c.if-number-ne0.false _ _ c.fresh-m.ensures d _ c.can_start.ensures (ap not c.if-not-can_start.false) c.if-tally-n.false _ _ _
-    c.zero.ensures c.zero-2.ensures c.zero-3.ensures c.register-1.given _
+    c.zero.ensures c.zero-2.ensures c.zero-3.ensures c.zero.auto.lanes _

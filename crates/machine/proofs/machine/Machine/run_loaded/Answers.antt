@@ -8,25 +8,22 @@ use Rattle.machine.proofs.machine.Machine.run_loaded.Goals as goal
 
 pub find_partners-first-requires : goal.find_partners-first-requires
 find_partners-first-requires c =
-    let h = c.requires.0 in
+    let h = c.requires.loaded in
     (rows_few _ _ _ _ _ h, search rules, search rules, search rules, marks_few _ _ _ _ _ h)
 
 pub slice_bounds-partners-end : goal.slice_bounds-partners-end
 slice_bounds-partners-end c = start_fits _ _ _ c.find_partners-first.ensures.partners_after _ (many_partners _)
 
-pub slice_bounds-run_read-end : goal.slice_bounds-run_read-end
-slice_bounds-run_read-end c = start_many _ _ _ c.find_partners-first.ensures.partners_after _ (many_partners _)
+pub slice_bounds-code-end : goal.slice_bounds-code-end
+slice_bounds-code-end c = start_many _ _ _ c.find_partners-first.ensures.partners_after _ (many_partners _)
 
 pub slice_bounds-turns-end : goal.slice_bounds-turns-end
 slice_bounds-turns-end c = start_fits _ _ _ c.find_partners-first.ensures.turns_after _ (many_turns _)
 
-pub slice_bounds-run_read-end-2 : goal.slice_bounds-run_read-end-2
-slice_bounds-run_read-end-2 c = start_many _ _ _ c.find_partners-first.ensures.turns_after _ (many_turns _)
+pub slice_bounds-code-end-2 : goal.slice_bounds-code-end-2
+slice_bounds-code-end-2 c = start_many _ _ _ c.find_partners-first.ensures.turns_after _ (many_turns _)
 
-pub slice_bounds-run_read-end-3 : goal.slice_bounds-run_read-end-3
-slice_bounds-run_read-end-3 c = let p = c.find_partners-first.ensures.rows_value in omega (arith, end_long _ _ _ _ p.0 p.1)
-
-pub run_read-requires : goal.run_read-requires
-run_read-requires c =
+pub run_read-requires-clause-read : goal.run_read-requires-clause-read
+run_read-requires-clause-read c =
     let p = c.find_partners-first.ensures in
-    (is_read _ _ _ _ _ c.requires.0 _ _ _ _ _ _ _ (p.partners_after, (p.turns_after, p.rows_value)) refl, c.requires.1)
+    is_read _ _ _ _ _ c.requires.loaded _ _ _ _ _ _ _ (p.partners_after, (p.turns_after, p.rows_value)) refl
