@@ -2,7 +2,7 @@
 use mathlib.Core.Path.{◌≡◌, ◌∙◌, refl, sym, ap, ap₂}
 use mathlib.Core.Bool.{Bool, true, false, cond}
 use mathlib.Core.List.{List, [], ◌++◌, map}
-use Prim.Native.Nat.{ℕ, zero, suc, ◌+◌, ◌-◌, ◌*◌, ◌%◌, ◌<◌, ◌≤◌}
+use Prim.Native.Nat.{ℕ, zero, suc, ◌+◌, ◌-◌, ◌<◌, ◌≤◌}
 use native.Mathlib.Omega.{arith}
 use borrow.Author.Tests.{ltb-false, eqb-true, le-ltb}
 use lib.Dec.{ltb, eqb}
@@ -19,7 +19,7 @@ use Rattle.kind_table.specs.Kinds.{shape, kind_at, index_of}
 use Rattle.ops.specs.Record.{whole, record_at, length_ok, count_of, named_of, last_of}
 use Rattle.ops.specs.Syntax.{Plain, Op, kind_of}
 use Rattle.ops.specs.Syntax.Plain.{comment, store, move, swap, locate, offset, deref, refer, cell, lane, get, put, peek, poke, ffi_call, alloc, free}
-use Rattle.ops.specs.Syntax.Op.{control, set, load, plain}
+use Rattle.ops.specs.Syntax.Op.{plain}
 use Rattle.ops.specs.Patch.{item, Loaded, ending, stop, push, on_record, on_full, walk, patch_of, mark_of}
 use Rattle.ops.specs.Decode.{mode_in, binding_in, row_at, op_with, op_at, ops_of}
 use Rattle.ops.specs.Decode.Patch.{ops, refused}
@@ -34,16 +34,10 @@ use Rattle.file_laws.proofs.Meaning.{means}
 -- ---- the payload
 
 mode_again : (n : ℕ) → n ≤ 3 → eqb n 2 ≡ false → mode_number (mode_in n) ≡ n
-mode_again zero h e = refl
-mode_again (suc zero) h e = refl
-mode_again (suc (suc zero)) h e = let z : ◌≡◌ {A = ℕ} 0 1 = cc in clash z
-mode_again (suc (suc (suc zero))) h e = refl
-mode_again (suc (suc (suc (suc n)))) h e = absurd (omega arith)
+mode_again n h e = grind arith
 
 binding_again : (n : ℕ) → n ≤ 1 → binding_number (binding_in n) ≡ n
-binding_again zero h = refl
-binding_again (suc zero) h = refl
-binding_again (suc (suc n)) h = absurd (omega arith)
+binding_again n h = grind arith
 
 module _ (s : List ℕ) (w : Below 256 s) (p l n : ℕ) (h : p + l ≤ length s) where
   empty : l ≡ 0 → [] ≡ text_at s p l
@@ -88,13 +82,7 @@ module _ (s : List ℕ) (w : Below 256 s) (p l n : ℕ) (h : p + l ≤ length s)
       → named_of s (shape (rule o)) p ≤ last_of (shape (rule o)) → eqb (named_of s (shape (rule o)) p) 2 ≡ false
       → payload_of (op_with s p n o) ≡ text_at s p l
   unfolding length_ok count_of
-  payload_again (control c) f q a b = empty (eqb-true l 0 f)
-  payload_again (set k vs) f q a b =
-      let e = eqb-true (l % 8) 0 f in
-      let z : 8 * n ≡ l = omega arith in
-      back_values s w n p (omega arith) ∙ ap (text_at s p) z
-  payload_again (load m) f q a b = four f
-  payload_again (plain q) f c a b = plain_again q f c a b
+  payload_again o f q a b = grind (arith, eqb-true, back_values, four, empty, plain_again)
 
 -- ---- the kind
 
