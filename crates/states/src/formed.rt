@@ -8,13 +8,13 @@ use kind_table::row;
 use machine_numbers::numbers::{BY_MARK, Numbers};
 use ops::records::Record;
 use patch_reader::reader::Read;
-use testing_device::device::Poked;
+use testing_device::device::Peeked;
 
 #[tactic(auto, unfolding(crate::specs::Formed::has_room))]
 fn has_room(register: &[u64], table: &[u16], channel: &[u64]) -> bool
     ensures { result ≡ has_room register.now table.now channel.now }
 {
-    Record::LANES <= register.len() && Read::MARKS <= table.len() && Poked::CHANNEL <= channel.len()
+    Record::LANES <= register.len() && Read::MARKS <= table.len() && Peeked::CHANNEL <= channel.len()
 }
 
 // What a fresh run asks: a known call mode, and room.
@@ -43,8 +43,8 @@ fn in_limits(h: Numbers) -> bool
         && h.functions <= Read::MARKS
         && h.depth <= Numbers::CALLS
         && h.saved <= Numbers::REFS
-        && h.waiting <= Poked::CHANNEL
-        && h.first < Poked::CHANNEL
+        && h.waiting <= Peeked::CHANNEL
+        && h.first < Peeked::CHANNEL
         && h.mode <= BY_MARK
         && is_whole(h.length)
 }
