@@ -142,9 +142,6 @@ begun l from to a ds = record { after = omega arith; before = ds.order; sum = re
 pub power_high : (i : ℕ) → i ≤ 15 → 10 ^ i ≤ 10 ^ 15
 power_high i h = pow-le-pow_right (zero-lt-suc 9) h
 
-pub power_more : (i p : ℕ) → p ≡ 10 ^ i → p * 10 ≡ 10 ^ (i + 1)
-power_more i p e = omega (arith, pow-add 10 i 1)
-
 pub power_some : (k p : ℕ) → p ≡ 10 ^ k → 0 < p
 power_some k p e = subst (λ (x : ℕ). 0 < x) (sym e) (ten_pos k)
 

@@ -17,15 +17,14 @@ pub struct Span {
 pub fn fraction(input: &[u64], at: usize) -> Span
     ensures { Fraction input.now at result.start result.end }
 {
-    if input.len() <= at {
-        return Span { start: at, end: at };
+    match input.get(at) {
+        Some(point) if *point % 256 == 46 => {
+            let start = at + 1;
+            let end = past_digits(input, start);
+            Span { start, end }
+        }
+        _ => Span { start: at, end: at },
     }
-    if input[at] % 256 == 46 {
-        let start = at + 1;
-        let end = past_digits(input, start);
-        return Span { start, end };
-    }
-    Span { start: at, end: at }
 }
 
 // The number a with the digits of a part after it.
@@ -35,25 +34,10 @@ pub fn number(input: &[u64], from: usize, to: usize, a: u64) -> u64
     ensures { Summed input.now from to a result }
 {
     let mut n = a;
-    let mut i = from;
-    while i < to {
+    for i in from..to {
         n = n * 10 + (input[i] % 256 - 48);
-        i += 1;
     }
     n
-}
-
-fn power(k: usize) -> u64
-    requires { k ≤ most_digits }
-    ensures { result ≡ 10 ^ k }
-{
-    let mut p: u64 = 1;
-    let mut i: usize = 0;
-    while i < k {
-        p = p * 10;
-        i += 1;
-    }
-    p
 }
 
 // The float nearest to n divided by ten to the power k. Both numbers are floats themselves, so that the division alone rounds.
@@ -62,6 +46,6 @@ pub fn quotient(n: u64, k: usize) -> u64
     requires k_le_most_digits { k ≤ most_digits }
     ensures { result ≡ quotient_of n k }
 {
-    let d = power(k);
+    let d = 10u64.pow(k as u32);
     f64::to_bits(std::num::nearest_u64_to_f64(n) / std::num::nearest_u64_to_f64(d))
 }

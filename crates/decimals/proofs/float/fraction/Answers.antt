@@ -1,14 +1,12 @@
 -- `decimals::float::fraction` meets its contract. Assumes nothing.
-use Rattle.std.proofs.Common.{rules, eq-eqb, ne_eqb}
-use Rattle.decimals.proofs.Reading.{fraction_end, fraction_none, fraction_some}
-use borrow.Author.Rules.{rules}
+use Rattle.std.proofs.Common.{ne_eqb}
+use Rattle.decimals.proofs.Reading.{fraction_end, fraction_none}
 use Rattle.decimals.proofs.float.fraction.Goals as goal
 
-pub returns-then-input-at : goal.returns-then-input-at
-returns-then-input-at c = search (fraction_end, rules)
+pub returns-in_default : goal.returns-in_default
+returns-in_default c =
+    let h = c.in-Some.ensures.lookup.3 in
+    fraction_none _ _ h.0 (rw (← h.1 0) (ne_eqb _ _ c.if-point-eq46.false))
 
-pub returns-then-input-at-eq46 : goal.returns-then-input-at-eq46
-returns-then-input-at-eq46 c = search (fraction_some, eq-eqb, rules)
-
-pub returns : goal.returns
-returns c = search (fraction_none, ne_eqb, rules)
+pub returns-in_default-2 : goal.returns-in_default-2
+returns-in_default-2 c = let h = rw c.in_default.is at c.get.ensures.lookup in fraction_end _ _ h.3

@@ -1,31 +1,17 @@
 -- `decimals::float::number` meets its contract. Assumes nothing.
 use Rattle.std.proofs.Common.{ℕ, ◌+◌, ◌-◌, ◌*◌, ◌^◌, ◌<◌, ◌≤◌, arith, rules}
-use Rattle.decimals.proofs.Ends.{digit_least, digit_most}
-use Rattle.decimals.proofs.Reading.{begun, added, summed, room}
+use Rattle.decimals.proofs.Ends.{digit_most}
+use Rattle.decimals.proofs.Reading.{added, summed, room}
 use borrow.Author.Rules.{rules}
 use Rattle.decimals.proofs.float.number.Goals as goal
 
 fit : (n d : ℕ) → n + 1 ≤ 10 ^ 15 → d ≤ 57 → n * 10 + (d - 48) < 2 ^ 64
 fit n d h k = omega arith
 
-pub loop-i-init : goal.loop-i-init
-loop-i-init c = begun _ _ _ _ c.requires.digits
-
 pub overflow_mul-n : goal.overflow_mul-n
 overflow_mul-n c =
     let r = room _ _ _ _ _ _ c.loop-i.invariant c.requires.from_bound in
     record { fits = omega (arith, r) }
-
-pub offset_bounds-input-i : goal.offset_bounds-input-i
-offset_bounds-input-i c =
-    let r = c.requires.digits.inside c.loop-i.i c.loop-i.invariant.after (search rules) in
-    search rules
-
-pub bounds-input-i : goal.bounds-input-i
-bounds-input-i c = c.requires.digits.inside c.loop-i.i c.loop-i.invariant.after (search rules)
-
-pub overflow_sub-n : goal.overflow_sub-n
-overflow_sub-n c = digit_least _ (c.requires.digits.digit c.loop-i.i c.loop-i.invariant.after (search rules))
 
 pub overflow_add-n : goal.overflow_add-n
 overflow_add-n c =
