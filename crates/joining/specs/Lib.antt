@@ -1,3 +1,4 @@
+pub mod File
 pub mod Join
 pub mod Stack
 pub mod Joined

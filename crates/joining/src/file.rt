@@ -1,0 +1,90 @@
+// A patch file that was read, and what is known of one of its ops.
+ghost use Rattle.std.specs.Prelude.{◌≡◌, ◌<◌, get_or};
+ghost use Rattle.joining.specs.File.{Holds};
+
+use byte_fields::read::u64_at;
+use kind_table::row;
+
+// The bytes, and the row, the count and the payload's first byte of each op.
+#[derive(Clone, Copy)]
+pub struct File<'a> {
+    pub bytes: &'a [u8],
+    pub rows: &'a [u8],
+    pub counts: &'a [u16],
+    pub payloads: &'a [u32],
+    pub ops: usize,
+    ghost holds: { Holds bytes.now rows.now counts.now payloads.now ops },
+}
+
+// An op of the file, by its place among them, and the value that it has by now if it is a Move or a Set of one value.
+#[derive(Clone, Copy)]
+pub struct Entry {
+    pub op: u16,
+    pub value: u64,
+}
+
+// What is looked at of an op.
+#[derive(Clone, Copy)]
+pub struct Seen {
+    pub row: u8,
+    pub count: u16,
+    pub value: u64,
+}
+
+impl File<'_> {
+    ghost use Rattle.joining.specs.Stack.{seen_of, entry_at, valued};
+
+    // The row of op i, its count, and the first byte of its payload; 0 beyond the last.
+    pub fn row(&self, i: u16) -> u8
+        ensures { result ≡ get_or self.now.rows.now i 0 }
+    {
+        self.rows.get(usize::from(i)).copied().unwrap_or(0)
+    }
+
+    pub fn count(&self, i: u16) -> u16
+        ensures { result ≡ get_or self.now.counts.now i 0 }
+    {
+        self.counts.get(usize::from(i)).copied().unwrap_or(0)
+    }
+
+    pub fn payload(&self, i: u16) -> usize
+        ensures { result ≡ get_or self.now.payloads.now i 0 }
+    {
+        self.payloads.get(usize::from(i)).copied().unwrap_or(0) as usize
+    }
+
+    pub fn seen(&self, entry: Entry) -> Seen
+        ensures { result ≡ seen_of self.now.rows.now self.now.counts.now entry }
+    {
+        Seen {
+            row: self.row(entry.op),
+            count: self.count(entry.op),
+            value: entry.value,
+        }
+    }
+
+    // Whether op i has a value of its own: a Move, or a Set of one value.
+    pub fn has_value(&self, i: u16) -> bool
+        ensures { result ≡ valued (get_or self.now.rows.now i 0) (get_or self.now.counts.now i 0) }
+    {
+        match self.row(i) {
+            row::MOVE => true,
+            row::SET => self.count(i) == 1,
+            _ => false,
+        }
+    }
+
+    // Op i with the value that it has in the file; 0 where it has none.
+    pub fn entry(&self, i: u16) -> Entry
+        requires { i < self.now.ops }
+        ensures { result ≡ entry_at self.now.bytes.now i }
+    {
+        if !self.has_value(i) {
+            return Entry { op: i, value: 0 };
+        }
+        Entry {
+            op: i,
+            value: u64_at(self.bytes, self.payload(i)),
+        }
+    }
+}
