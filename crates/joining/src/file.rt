@@ -1,5 +1,6 @@
 // A patch file that was read, and what is known of one of its ops.
-ghost use Rattle.std.specs.Prelude.{◌≡◌, ◌<◌, get_or};
+ghost use Rattle.std.specs.Prelude.{◌≡◌, ◌<◌, ◌≤◌, get_or};
+ghost use Rattle.basics.specs.Limits.{most_ops};
 ghost use Rattle.joining.specs.File.{Holds};
 
 use byte_fields::read::u64_at;
@@ -13,6 +14,7 @@ pub struct File<'a> {
     pub counts: &'a [u16],
     pub payloads: &'a [u32],
     pub ops: usize,
+    ghost few: { ops ≤ most_ops },
     ghost holds: { Holds bytes.now rows.now counts.now payloads.now ops },
 }
 
@@ -64,6 +66,7 @@ impl File<'_> {
     }
 
     // Whether op i has a value of its own: a Move, or a Set of one value.
+    #[tactic(auto, unfolding(crate::specs::Stack::valued))]
     pub fn has_value(&self, i: u16) -> bool
         ensures { result ≡ valued (get_or self.now.rows.now i 0) (get_or self.now.counts.now i 0) }
     {

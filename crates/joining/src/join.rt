@@ -1,18 +1,16 @@
 // A whole file, joined.
 ghost use Rattle.std.specs.Prelude.{◌≡◌, ◌≤◌};
-ghost use Rattle.basics.specs.Limits.{most_ops};
 ghost use Rattle.joining.specs.Stack.{stack, after};
 ghost use Rattle.joining.specs.Joined.{outcome, join_of};
 
 use crate::file::{Entry, File};
 use crate::stack::Stack;
 use crate::write::write_all;
-use answers::join::Joined;
+use answers::join::{JoinError, Joined};
 use patch_reader::reader::{Read, load};
 
 // Each of the file's ops pushed in turn, on no entry.
 fn push_all(file: &File, left: &mut Stack)
-    requires { file.now.ops ≤ most_ops }
     ensures few { left.new.n ≤ file.now.ops }
     ensures value { stack left.new ≡ after file.now.bytes.now file.now.rows.now file.now.counts.now file.now.ops }
 {
@@ -23,7 +21,7 @@ fn push_all(file: &File, left: &mut Stack)
 }
 
 // Joins a patch file into the lent bytes.
-pub fn join(bytes: &[u8], out: &mut [u8]) -> Joined
+pub fn join(bytes: &[u8], out: &mut [u8]) -> Result<Joined, JoinError>
     ensures { outcome result out.new ≡ join_of bytes.now out.old }
 {
     let mut rows = [0u8; Read::OPS];
@@ -32,10 +30,13 @@ pub fn join(bytes: &[u8], out: &mut [u8]) -> Joined
     let mut payloads = [0u32; Read::OPS];
     let read = load(bytes, &mut rows, &mut counts, &mut needs, &mut payloads);
     if read.number != 0 {
-        return Joined::BadFile(read.number, read.place);
+        return Err(JoinError::BadFile {
+            number: read.number,
+            place: read.place,
+        });
     }
     if out.len() < bytes.len() {
-        return Joined::NoRoom;
+        return Err(JoinError::NoRoom);
     }
     let file = File {
         bytes,
@@ -49,6 +50,6 @@ pub fn join(bytes: &[u8], out: &mut [u8]) -> Joined
         n: 0,
     };
     push_all(&file, &mut left);
-    let length = write_all(&file, &left, out);
-    Joined::Written(left.n, length)
+    let bytes = write_all(&file, &left, out);
+    Ok(Joined { ops: left.n, bytes })
 }

@@ -1,8 +1,6 @@
 // The push of an op on the ops before it.
 ghost use Rattle.std.specs.Prelude.{◌≡◌, ◌∷◌, ◌+◌, ◌<◌, ◌≤◌};
 ghost use Rattle.basics.specs.Limits.{most_ops};
-ghost use Rattle.lanes.specs.Int.{int_add};
-ghost use Rattle.joining.specs.Stack.{meet, stack, moved_on, push_on};
 
 use crate::file::{Entry, File, Seen};
 use kind_table::row;
@@ -14,6 +12,7 @@ use patch_reader::reader::Read;
 pub struct Stack {
     pub entries: [Entry; Read::OPS],
     pub n: usize,
+    ghost few: { n ≤ most_ops },
 }
 
 // What the last op and the new one make of each other: the new one is pushed, or left out; the last one is taken off, and the new one
@@ -29,7 +28,11 @@ pub enum Met {
     Sum(u64),
 }
 
+ghost use Rattle.lanes.specs.Int.{int_add};
+ghost use Rattle.joining.specs.Stack.{meet, stack, moved_on, push_on};
+
 // Two moves as one.
+#[tactic(auto, unfolding(lanes::specs::Lane::cell_rule))]
 fn total(a: u64, b: u64) -> u64
     ensures { result ≡ int_add a b }
 {
@@ -37,6 +40,7 @@ fn total(a: u64, b: u64) -> u64
 }
 
 // The last op and the new one.
+#[tactic(auto, unfolding(crate::specs::Stack::meet, crate::specs::Stack::cells, crate::specs::Stack::tests, lanes::specs::Lane::lane_rule))]
 pub fn meets(last: Seen, next: Seen) -> Met
     ensures { result ≡ meet last.row last.count last.value next.row next.count next.value }
 {

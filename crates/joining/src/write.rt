@@ -1,6 +1,5 @@
 // The ops that are left, as a file: each has its record copied, with the value that it has by now.
 ghost use Rattle.std.specs.Prelude.{◌≡◌, ◌+◌, ◌<◌, ◌≤◌, length};
-ghost use Rattle.basics.specs.Limits.{most_ops};
 ghost use Rattle.byte_fields.specs.Storage.{fill, placed};
 ghost use Rattle.byte_fields.specs.Bytes.{le64};
 ghost use Rattle.ops.specs.Write.{encode, Below};
@@ -43,7 +42,6 @@ pub fn write_op(read: &File, entry: Entry, out: &mut [u8], at: usize) -> usize
 pub fn write_all(read: &File, left: &Stack, out: &mut [u8]) -> usize
     requires bytes { Below 256 read.now.bytes.now }
     requires within { Within read.now.ops (stack left.now) }
-    requires few { left.now.n ≤ most_ops }
     requires room { length (file read.now.bytes.now (stack left.now)) ≤ length out.old }
     ensures after { result ≡ length (file read.now.bytes.now (stack left.now)) }
     ensures value { out.new ≡ fill (file read.now.bytes.now (stack left.now)) out.old }
