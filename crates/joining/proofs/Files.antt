@@ -3,7 +3,7 @@ use mathlib.Core.Path.{◌≡◌, refl, ap, ap₂, sym, ◌∙◌}
 use Prim.Native.Nat.{ℕ, zero, suc, ◌<◌, ◌≤◌}
 use native.Mathlib.Omega.{arith}
 use mathlib.Core.List.{List, map}
-use lib.ListN.{length, get_or, drop, length-append, length-drop, length-map, length-reverse, get_or-append, get_or-map}
+use lib.ListN.{length, get_or, drop, length-map, length-reverse, get_or-append, get_or-map}
 use mir.Val.{Fits}
 use mir.Syntax.{w8}
 use borrow.Author.Tests.{lt-ltb, le-ltb}
@@ -14,7 +14,6 @@ use Rattle.ops.specs.Decode.{op_at, ops_of}
 use Rattle.ops.specs.Decode.Patch.{ops}
 use Rattle.ops.specs.Write.{encode_all, Below}
 use Rattle.patch_reader.specs.declared.reader.Read.{Read}
-use Rattle.file_laws.proofs.Items.{few_items}
 use Rattle.file_laws.proofs.Loaded as loaded
 use Rattle.file_laws.proofs.Meaning.{ops_are, refused_are}
 use Rattle.file_laws.proofs.Fitting.{below_all}
@@ -61,9 +60,9 @@ module _ (s : List ℕ) (r : Read) (e : r ≡ read_of (patch_of s)) where
   many : r.ops ≡ length (patch_of s).items
   many = loaded.ops_is s r e
 
-  pub holds : {k₀ c₀ p₀ k c p : List ℕ} → k ≡ fill (map row_in (patch_of s).items) k₀ → c ≡ fill (map count_in (patch_of s).items) c₀
+  pub holds : (k₀ c₀ p₀ k c p : List ℕ) → k ≡ fill (map row_in (patch_of s).items) k₀ → c ≡ fill (map count_in (patch_of s).items) c₀
       → p ≡ fill (map payload_in (patch_of s).items) p₀ → Holds s k c p r.ops
-  holds {k₀ = k₀} {c₀ = c₀} {p₀ = p₀} {k = k} {c = c} {p = p} ek ec ep = record {
+  holds k₀ c₀ p₀ k c p ek ec ep = record {
     many = many;
     rows = λ i l. array_at row_in s k₀ k ek refl i (omega (arith, l, many));
     counts = λ i l. array_at count_in s c₀ c ec refl i (omega (arith, l, many));
@@ -72,13 +71,13 @@ module _ (s : List ℕ) (r : Read) (e : r ≡ read_of (patch_of s)) where
 
 -- ---- a good file
 
-module _ {s : List ℕ} (z : (patch_of s).number ≡ 0) where
+module _ (s : List ℕ) (z : (patch_of s).number ≡ 0) where
   is_patch : ops_of s ≡ ops (map (op_at s) (patch_of s).items)
   is_patch = ops_are s z
 
-  pub no_room : {out : List ℕ} → length out < length s → outcome (Err NoRoom) out ≡ join_of s out
+  pub no_room : (out : List ℕ) → length out < length s → outcome (Err NoRoom) out ≡ join_of s out
   unfolding join_of
-  no_room {out = out} l = sym (ap (λ x. joined_as x s out) is_patch ∙ rw (lt-ltb (length out) (length s) l) refl)
+  no_room out l = sym (ap (λ x. joined_as x s out) is_patch ∙ rw (lt-ltb (length out) (length s) l) refl)
 
 -- ---- the stack after all its ops
 
@@ -86,18 +85,18 @@ top_down_long : (es : List Entry) (n : ℕ) → length (top_down es n) ≡ n
 top_down_long es zero = refl
 top_down_long es (suc n) = ap suc (top_down_long es n)
 
-module _ {s k c p : List ℕ} {n : ℕ} (h : Holds s k c p n) {st : Stack} (q : stack st ≡ after s k c n) where
-  abbrev joined_ops : List Op
-  joined_ops = join (map (op_at s) (patch_of s).items)
+abbrev joined_ops : List ℕ → List Op
+joined_ops s = join (map (op_at s) (patch_of s).items)
 
+module _ {s k c p : List ℕ} {n : ℕ} (h : Holds s k c p n) (st : Stack) (q : stack st ≡ after s k c n) where
   pub all_within : Within n (stack st)
   all_within = rw q (joined_seen s k c p n h).1
 
-  file_is : file s (stack st) ≡ encode_all joined_ops
+  file_is : file s (stack st) ≡ encode_all (joined_ops s)
   unfolding file
   file_is = rw q (ap encode_all (sym (joined_seen s k c p n h).0))
 
-  ops_are_left : st.n ≡ length joined_ops
+  ops_are_left : st.n ≡ length (joined_ops s)
   ops_are_left =
       sym (ap length (joined_seen s k c p n h).0
       ∙ length-reverse (map (op_of s) (after s k c n))
@@ -105,10 +104,10 @@ module _ {s k c p : List ℕ} {n : ℕ} (h : Holds s k c p n) {st : Stack} (q : 
       ∙ ap length (sym q)
       ∙ top_down_long st.entries st.n)
 
-  module _ (z : (patch_of s).number ≡ 0) {out : List ℕ} (room : length s ≤ length out) where
+  module _ (z : (patch_of s).number ≡ 0) (out : List ℕ) (room : length s ≤ length out) where
     pub file_fits : Below 256 s → length (file s (stack st)) ≤ length out
     file_fits w =
-        let b : length (encode_all (map (op_at s) (patch_of s).items)) ≡ length s = ap length (bytes_back s w (map (op_at s) (patch_of s).items) (is_patch z)) in
+        let b : length (encode_all (map (op_at s) (patch_of s).items)) ≡ length s = ap length (bytes_back s w (map (op_at s) (patch_of s).items) (is_patch s z)) in
         let l = join_shorter (map (op_at s) (patch_of s).items) in
         rw file_is (omega arith)
 
@@ -117,5 +116,5 @@ module _ {s k c p : List ℕ} {n : ℕ} (h : Holds s k c p n) {st : Stack} (q : 
     unfolding join_of
     all_joined {out' = out'} a b =
         ap₂ (λ (i j : ℕ). outcome (written i j) out') ops_are_left (a ∙ ap length file_is)
-        ∙ ap (outcome (written (length joined_ops) (length (encode_all joined_ops)))) (b ∙ ap (λ (l : List ℕ). fill l out) file_is)
-        ∙ sym (ap (λ x. joined_as x s out) (is_patch z) ∙ rw (le-ltb (length out) (length s) room) refl)
+        ∙ ap (outcome (written (length (joined_ops s)) (length (encode_all (joined_ops s))))) (b ∙ ap (λ (l : List ℕ). fill l out) file_is)
+        ∙ sym (ap (λ x. joined_as x s out) (is_patch s z) ∙ rw (le-ltb (length out) (length s) room) refl)

@@ -1,17 +1,11 @@
 -- The stack that the first entries make, and what a store does to it. Assumes nothing.
-use mathlib.Core.Path.{◌≡◌, refl, ap, sym, ◌∙◌}
-use Prim.Native.Nat.{ℕ, zero, suc, ◌-◌, ◌<◌, ◌≤◌}
-use native.Mathlib.Nat.{not-suc-le-zero}
+use mathlib.Core.Path.{◌≡◌, refl}
+use Prim.Native.Nat.{ℕ, zero, suc, ◌<◌, ◌≤◌}
 use native.Mathlib.Omega.{arith}
-use native.Mathlib.Numerals.{unary_clauses}
 use mathlib.Core.List.{List, ◌∷◌}
-use lib.ListN.{length, get_or, set}
+use lib.ListN.{length, set}
 use lib.Seq.{get_or-set_same, get_or-set_other}
-use borrow.Author.Tests.{eq-eqb, ne_eqb}
-use Rattle.lanes.specs.Int.{int_add}
-use Rattle.joining.specs.declared.stack.Met.{Met}
-use Rattle.joining.specs.declared.stack.Met.TheVariants.{Push, Skip, Under}
-use Rattle.joining.specs.Stack.{entry, met, moved_on, react_on, push_on, top_down}
+use Rattle.joining.specs.Stack.{entry, top_down}
 use Rattle.joining.specs.declared.file.Entry.{Entry}
 
 -- stores beyond the stack

@@ -1,5 +1,5 @@
 -- The stack that the code joins on: its entries, the push of one, and the file's ops that they stand for. Assumes nothing.
-use Rattle.std.specs.Prelude.{ℕ, zero, suc, ◌<◌, ◌≡◌, Bool, true, false, cond, List, [], ◌∷◌, map, reverse, eqb, length, get_or}
+use Rattle.std.specs.Prelude.{ℕ, zero, suc, ◌<◌, Bool, true, false, cond, List, [], ◌∷◌, map, reverse, eqb, get_or}
 use Rattle.kind_table.specs.Rows as row
 use Rattle.lanes.specs.Int.{int_add, int_gez}
 use Rattle.byte_fields.specs.Bytes.{u64_at}
@@ -13,8 +13,8 @@ use Rattle.ops.specs.Syntax.Op.{set, plain}
 use Rattle.joining.specs.File.{item_at}
 use Rattle.joining.specs.declared.file.Entry.{Entry}
 use Rattle.joining.specs.declared.file.Seen.{Seen}
-use Rattle.joining.specs.declared.stack.Met.{Met}
-use Rattle.joining.specs.declared.stack.Met.TheVariants.{Push, Skip, Pop, Again, Test, Under, Sum}
+use Rattle.joining.specs.declared.met.Met.{Met}
+use Rattle.joining.specs.declared.met.Met.TheVariants.{Push, Skip, Pop, Again, Test, Under, Sum}
 use Rattle.joining.specs.declared.stack.Stack.{Stack}
 
 -- ---- entries

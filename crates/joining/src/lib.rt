@@ -2,6 +2,7 @@
 #![tactic(auto)]
 
 mod file; // the patch file, as it was read
+mod met; // what two ops make of each other
 mod stack; // the push of an op on the ops before it
 mod write; // the ops left, as a file
 pub mod join; // a whole file
