@@ -13,15 +13,15 @@ use Rattle.patch_reader.specs.Answer.{read_of}
 use Rattle.ops.specs.Decode.{op_at, ops_of}
 use Rattle.ops.specs.Decode.Patch.{ops}
 use Rattle.ops.specs.Write.{encode_all, Below}
-use Rattle.patch_reader.specs.declared.reader.Read.{Read}
-use Rattle.file_laws.proofs.Loaded as loaded
+use Rattle.patch_reader.specs.declared.reader.Unread.{Unread}
+use Rattle.file_laws.proofs.Loaded.{bad_file, bad_number, bad_place}
 use Rattle.file_laws.proofs.Meaning.{ops_are, refused_are}
 use Rattle.file_laws.proofs.Fitting.{below_all}
 use Rattle.file_laws.proofs.Rewritten.{bytes_back}
 use Rattle.joining.specs.Join.{join}
 use Rattle.joining.specs.Joined.{outcome, joined_as, join_of}
-use Rattle.joining.specs.File.{Holds}
-use Rattle.joining.specs.declared.file.Entry.{Entry}
+use Rattle.joining.specs.Source.{Holds}
+use Rattle.joining.specs.declared.source.Entry.{Entry}
 use Rattle.joining.specs.declared.stack.Stack.{Stack}
 use Rattle.joining.specs.Stack.{stack, top_down, after, op_of, file, Within}
 use Rattle.ops.specs.Syntax.{Op}
@@ -50,24 +50,21 @@ module _ (f : Item → ℕ) (s old new : List ℕ) (e : new ≡ fill (map f (pat
 
 -- ---- a file that is read, and refused or not
 
-module _ (s : List ℕ) (r : Read) (e : r ≡ read_of (patch_of s)) where
-  pub bad_file : (out : List ℕ) → (r.number ≡ 0 → ⊥) → outcome (Err (BadFile r.number r.place)) out ≡ join_of s out
-  unfolding join_of
-  bad_file out n =
-      ap₂ (λ (a b : ℕ). outcome (Err (BadFile a b)) out) (loaded.number_is s r e) (loaded.bad_place s r e n)
-      ∙ sym (ap (λ x. joined_as x s out) (refused_are s (loaded.bad_file s r e n)))
+pub refused : (s : List ℕ) (u : Unread) → Err u ≡ read_of (patch_of s) → (out : List ℕ) → outcome (Err (BadFile u.number u.place)) out ≡ join_of s out
+unfolding join_of
+refused s u e out =
+    ap₂ (λ (a b : ℕ). outcome (Err (BadFile a b)) out) (bad_number s u e) (bad_place s u e)
+    ∙ sym (ap (λ x. joined_as x s out) (refused_are s (bad_file s u e)))
 
-  many : r.ops ≡ length (patch_of s).items
-  many = loaded.ops_is s r e
-
-  pub holds : (k₀ c₀ p₀ k c p : List ℕ) → k ≡ fill (map row_in (patch_of s).items) k₀ → c ≡ fill (map count_in (patch_of s).items) c₀
-      → p ≡ fill (map payload_in (patch_of s).items) p₀ → Holds s k c p r.ops
-  holds k₀ c₀ p₀ k c p ek ec ep = record {
-    many = many;
-    rows = λ i l. array_at row_in s k₀ k ek refl i (omega (arith, l, many));
-    counts = λ i l. array_at count_in s c₀ c ec refl i (omega (arith, l, many));
-    payloads = λ i l. array_at payload_in s p₀ p ep refl i (omega (arith, l, many));
-  }
+pub holds : (s : List ℕ) (n : ℕ) → n ≡ length (patch_of s).items → (k₀ c₀ p₀ k c p : List ℕ)
+    → k ≡ fill (map row_in (patch_of s).items) k₀ → c ≡ fill (map count_in (patch_of s).items) c₀
+    → p ≡ fill (map payload_in (patch_of s).items) p₀ → Holds s k c p n
+holds s n many k₀ c₀ p₀ k c p ek ec ep = record {
+  many = many;
+  rows = λ i l. array_at row_in s k₀ k ek refl i (omega (arith, l, many));
+  counts = λ i l. array_at count_in s c₀ c ec refl i (omega (arith, l, many));
+  payloads = λ i l. array_at payload_in s p₀ p ep refl i (omega (arith, l, many));
+}
 
 -- ---- a good file
 

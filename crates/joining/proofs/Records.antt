@@ -32,9 +32,9 @@ use Rattle.patch_reader.proofs.Whole.{tells}
 use Rattle.file_laws.proofs.Items.{IsItem}
 use Rattle.file_laws.proofs.Rewritten.{record_again}
 use Rattle.file_laws.proofs.Written.{encode_append}
-use Rattle.joining.specs.File.{item_at, Holds}
+use Rattle.joining.specs.Source.{item_at, Holds}
 use Rattle.joining.specs.Stack.{entry, valued, value_of, entry_at, op_within, op_of, top_down, file, Within}
-use Rattle.joining.specs.declared.file.Entry.{Entry}
+use Rattle.joining.specs.declared.source.Entry.{Entry}
 use Rattle.joining.proofs.StackIsOps.{is_item}
 
 -- ---- an op of the file

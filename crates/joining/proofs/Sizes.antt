@@ -8,6 +8,8 @@ use lib.Dec.{eqb}
 use lib.ListN.{length, length-append}
 use borrow.Author.Tests.{eqb-true}
 use Rattle.kind_table.specs.Kinds.{shape, kind_at, index_of}
+use Rattle.kind_table.specs.declared.shape.Shape.{Shape}
+use Rattle.kind_table.specs.declared.shape.Shape.TheVariants.{Empty, Text, Values, LaneCount, Amount, AmountAndLanes, Mode, LeftOut, Binding}
 use Rattle.ops.specs.Decode.{op_count}
 use Rattle.ops.specs.Syntax.{Op, Plain, kind_of, arg_of, values_of}
 use Rattle.ops.specs.Syntax.Plain.{comment, store, move, swap, locate, offset, deref, refer, cell, lane, get, put, peek, poke, ffi_call, alloc, free}
@@ -23,15 +25,16 @@ use Rattle.joining.proofs.Pushes.{both_true, weigh, join_light}
 -- ---- the bytes of an op, by its row
 
 -- the length of a payload of this shape that counts n
-abbrev span : ℕ → ℕ → ℕ
-span f n =
-    cond (eqb f 1) n
-    (cond (eqb f 2) (8 * n)
-    (cond (eqb f 3) 4
-    (cond (eqb f 4) 8
-    (cond (eqb f 5) 12
-    (cond (eqb f 6) 2
-    (cond (eqb f 8) 2 0))))))
+abbrev span : Shape → ℕ → ℕ
+span Empty n = 0
+span Text n = n
+span Values n = 8 * n
+span LaneCount n = 4
+span Amount n = 8
+span AmountAndLanes n = 12
+span Mode n = 2
+span LeftOut n = 0
+span Binding n = 2
 
 plain_span : (q : Plain) → length (payload_of (plain q)) ≡ span (shape (rows.rule (plain q))) (op_count (plain q))
 unfolding le64 le32 le16
@@ -64,7 +67,7 @@ size_at : (o : Op) (k : ℕ) → kind_of o ≡ k → length (encode o) ≡ 6 + s
 size_at o k e =
     length_encode o
     ∙ ap (λ (j : ℕ). 6 + j) (payload_span o)
-    ∙ ap (λ (f : ℕ). 6 + span f (op_count o)) (ap shape (sym (known o).2) ∙ ap (λ (j : ℕ). shape (kind_at (index_of j))) e)
+    ∙ ap (λ (f : Shape). 6 + span f (op_count o)) (ap shape (sym (known o).2) ∙ ap (λ (j : ℕ). shape (kind_at (index_of j))) e)
 
 move_size : (o : Op) → kind_of o ≡ 11 → length (encode o) ≡ 14
 unfolding kind_at index_of

@@ -6,7 +6,7 @@ use mathlib.Core.List.{List, ◌∷◌}
 use lib.ListN.{length, set}
 use lib.Seq.{get_or-set_same, get_or-set_other}
 use Rattle.joining.specs.Stack.{entry, top_down}
-use Rattle.joining.specs.declared.file.Entry.{Entry}
+use Rattle.joining.specs.declared.source.Entry.{Entry}
 
 -- stores beyond the stack
 top_down_set : (es : List Entry) (j : ℕ) (e : Entry) (n : ℕ) → n ≤ j → top_down (set es j e) n ≡ top_down es n

@@ -1,4 +1,4 @@
-pub mod File
+pub mod Source
 pub mod Join
 pub mod Stack
 pub mod Joined

@@ -1,7 +1,7 @@
 // Joining: each op of a patch pushed on the ops before it.
 #![tactic(auto)]
 
-mod file; // the patch file, as it was read
+mod source; // the patch file, as it was read
 mod met; // what two ops make of each other
 mod stack; // the push of an op on the ops before it
 mod write; // the ops left, as a file

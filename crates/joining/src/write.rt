@@ -5,7 +5,7 @@ ghost use Rattle.byte_fields.specs.Bytes.{le64};
 ghost use Rattle.ops.specs.Write.{encode, Below};
 ghost use Rattle.joining.specs.Stack.{Within, stack, op_of, file};
 
-use crate::file::{Entry, File};
+use crate::source::{Entry, Source};
 use crate::stack::Stack;
 use byte_fields::read::u32_at;
 use byte_fields::write::{copy_bytes, put_u32};
@@ -20,35 +20,35 @@ pub fn put_u64(out: &mut [u8], at: usize, v: u64)
 }
 
 // The record of an entry, at byte `at`; the byte after it.
-pub fn write_op(read: &File, entry: Entry, out: &mut [u8], at: usize) -> usize
-    requires bytes { Below 256 read.now.bytes.now }
-    requires within { entry.op < read.now.ops }
-    requires room { at + length (encode (op_of read.now.bytes.now entry)) ≤ length out.old }
-    ensures after { result ≡ at + length (encode (op_of read.now.bytes.now entry)) }
-    ensures value { out.new ≡ placed out.old at (encode (op_of read.now.bytes.now entry)) }
+pub fn write_op(source: &Source, entry: Entry, out: &mut [u8], at: usize) -> usize
+    requires bytes { Below 256 source.now.bytes.now }
+    requires within { entry.op < source.now.ops }
+    requires room { at + length (encode (op_of source.now.bytes.now entry)) ≤ length out.old }
+    ensures after { result ≡ at + length (encode (op_of source.now.bytes.now entry)) }
+    ensures value { out.new ≡ placed out.old at (encode (op_of source.now.bytes.now entry)) }
 {
-    let from = read.payload(entry.op) - 6;
-    if read.has_value(entry.op) {
-        copy_bytes(out, at, read.bytes, from, 6);
+    let from = source.payload(entry.op) - 6;
+    if source.has_value(entry.op) {
+        copy_bytes(out, at, source.bytes, from, 6);
         put_u64(out, at + 6, entry.value);
         return at + 14;
     }
-    let size = u32_at(read.bytes, from) + 4;
-    copy_bytes(out, at, read.bytes, from, size);
+    let size = u32_at(source.bytes, from) + 4;
+    copy_bytes(out, at, source.bytes, from, size);
     at + size
 }
 
 // The records of the entries, the first one first; the byte after the last.
-pub fn write_all(read: &File, left: &Stack, out: &mut [u8]) -> usize
-    requires bytes { Below 256 read.now.bytes.now }
-    requires within { Within read.now.ops (stack left.now) }
-    requires room { length (file read.now.bytes.now (stack left.now)) ≤ length out.old }
-    ensures after { result ≡ length (file read.now.bytes.now (stack left.now)) }
-    ensures value { out.new ≡ fill (file read.now.bytes.now (stack left.now)) out.old }
+pub fn write_all(source: &Source, left: &Stack, out: &mut [u8]) -> usize
+    requires bytes { Below 256 source.now.bytes.now }
+    requires within { Within source.now.ops (stack left.now) }
+    requires room { length (file source.now.bytes.now (stack left.now)) ≤ length out.old }
+    ensures after { result ≡ length (file source.now.bytes.now (stack left.now)) }
+    ensures value { out.new ≡ fill (file source.now.bytes.now (stack left.now)) out.old }
 {
     let mut at = 0;
     for entry in &left.entries[..left.n] {
-        at = write_op(read, *entry, out, at);
+        at = write_op(source, *entry, out, at);
     }
     at
 }

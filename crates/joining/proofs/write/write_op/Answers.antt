@@ -4,12 +4,12 @@ use Rattle.joining.proofs.Records.{Writes, place_after, has_length, asks_head, a
 use Rattle.joining.proofs.write.write_op.Goals as goal
 use Rattle.joining.proofs.write.write_op.Goals.{After-has_value}
 
-writes : (c : After-has_value) → let a = c.args in let r = a.read.now in
-    Writes r.bytes.now r.rows.now r.counts.now r.payloads.now a.out.now r.ops a.entry a.at c.payload-from.result c.has_value.result
+writes : (c : After-has_value) → let a = c.args in let r = a.source.now in
+    Writes r.bytes.now r.read.now.rows r.read.now.counts r.read.now.payloads a.out.now r.ops a.entry a.at c.payload-from.result c.has_value.result
 writes c = search
 
 pub overflow_sub-from : goal.overflow_sub-from
-overflow_sub-from c = rw c.payload-from.ensures (place_after _ _ _ _ _ c.args.read.now.holds _ c.requires.within)
+overflow_sub-from c = rw c.payload-from.ensures (place_after _ _ _ _ _ c.args.source.now.holds _ c.requires.within)
 
 pub copy_bytes-requires : goal.copy_bytes-requires
 copy_bytes-requires c = asks_head (writes (goal.at.copy_bytes-requires c).After-has_value) c.if-has_value.true

@@ -1,7 +1,7 @@
--- `joining::file::File::entry` meets its contract. Assumes nothing.
+-- `joining::source::Source::entry` meets its contract. Assumes nothing.
 use mathlib.Core.Path.{◌∙◌, sym}
 use Rattle.joining.proofs.Records.{value_within, entry_none, entry_own}
-use Rattle.joining.proofs.file.File.entry.Goals as goal
+use Rattle.joining.proofs.source.Source.entry.Goals as goal
 
 pub returns-then-not-has_value : goal.returns-then-not-has_value
 returns-then-not-has_value c = entry_none c.args.self.now.holds c.requires (sym c.has_value.ensures ∙ c.if-not-has_value.true)

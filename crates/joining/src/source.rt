@@ -1,21 +1,20 @@
 // A patch file that was read, and what is known of one of its ops.
 ghost use Rattle.std.specs.Prelude.{◌≡◌, ◌<◌, ◌≤◌, get_or};
 ghost use Rattle.basics.specs.Limits.{most_ops};
-ghost use Rattle.joining.specs.File.{Holds};
+ghost use Rattle.joining.specs.Source.{Holds};
 
 use byte_fields::read::u64_at;
 use kind_table::row;
+use patch_reader::reader::Read;
 
-// The bytes, and the row, the count and the payload's first byte of each op.
+// Its bytes, and the columns of its ops.
 #[derive(Clone, Copy)]
-pub struct File<'a> {
+pub struct Source<'a> {
     pub bytes: &'a [u8],
-    pub rows: &'a [u8],
-    pub counts: &'a [u16],
-    pub payloads: &'a [u32],
+    pub read: &'a Read,
     pub ops: usize,
     ghost few: { ops ≤ most_ops },
-    ghost holds: { Holds bytes.now rows.now counts.now payloads.now ops },
+    ghost holds: { Holds bytes.now read.now.rows read.now.counts read.now.payloads ops },
 }
 
 // An op of the file, by its place among them, and the value that it has by now if it is a Move or a Set of one value.
@@ -33,30 +32,30 @@ pub struct Seen {
     pub value: u64,
 }
 
-impl File<'_> {
+impl Source<'_> {
     ghost use Rattle.joining.specs.Stack.{seen_of, entry_at, valued};
 
     // The row of op i, its count, and the first byte of its payload; 0 beyond the last.
     pub fn row(&self, i: u16) -> u8
-        ensures { result ≡ get_or self.now.rows.now i 0 }
+        ensures { result ≡ get_or self.now.read.now.rows i 0 }
     {
-        self.rows.get(usize::from(i)).copied().unwrap_or(0)
+        self.read.rows.get(usize::from(i)).copied().unwrap_or(0)
     }
 
     pub fn count(&self, i: u16) -> u16
-        ensures { result ≡ get_or self.now.counts.now i 0 }
+        ensures { result ≡ get_or self.now.read.now.counts i 0 }
     {
-        self.counts.get(usize::from(i)).copied().unwrap_or(0)
+        self.read.counts.get(usize::from(i)).copied().unwrap_or(0)
     }
 
     pub fn payload(&self, i: u16) -> usize
-        ensures { result ≡ get_or self.now.payloads.now i 0 }
+        ensures { result ≡ get_or self.now.read.now.payloads i 0 }
     {
-        self.payloads.get(usize::from(i)).copied().unwrap_or(0) as usize
+        self.read.payloads.get(usize::from(i)).copied().unwrap_or(0) as usize
     }
 
     pub fn seen(&self, entry: Entry) -> Seen
-        ensures { result ≡ seen_of self.now.rows.now self.now.counts.now entry }
+        ensures { result ≡ seen_of self.now.read.now.rows self.now.read.now.counts entry }
     {
         Seen {
             row: self.row(entry.op),
@@ -68,7 +67,7 @@ impl File<'_> {
     // Whether op i has a value of its own: a Move, or a Set of one value.
     #[tactic(auto, unfolding(crate::specs::Stack::valued))]
     pub fn has_value(&self, i: u16) -> bool
-        ensures { result ≡ valued (get_or self.now.rows.now i 0) (get_or self.now.counts.now i 0) }
+        ensures { result ≡ valued (get_or self.now.read.now.rows i 0) (get_or self.now.read.now.counts i 0) }
     {
         match self.row(i) {
             row::MOVE => true,
