@@ -2,7 +2,7 @@
 use mathlib.Core.Path.{◌≡◌, refl, ap, sym, ◌∙◌}
 use Prim.Native.Nat.{ℕ, ◌+◌, ◌*◌, ◌≤◌}
 use native.Mathlib.Omega.{arith}
-use mathlib.Core.Bool.{true, cond, ◌&&◌}
+use mathlib.Core.Bool.{true, ◌&&◌}
 use mathlib.Core.List.{List, [], ◌∷◌}
 use lib.Dec.{eqb}
 use lib.ListN.{length, length-append}
@@ -20,7 +20,8 @@ use Rattle.file_laws.proofs.Encoded.{known, length_bytes}
 use Rattle.file_laws.proofs.Rows as rows
 use Rattle.file_laws.proofs.Written.{length_encode}
 use Rattle.joining.specs.Join.{decided, tested, join}
-use Rattle.joining.proofs.Pushes.{both_true, weigh, join_light}
+use Rattle.basics.proofs.Tests.{and_left, and_right}
+use Rattle.joining.proofs.Pushes.{weigh, join_light}
 
 -- ---- the bytes of an op, by its row
 
@@ -89,11 +90,12 @@ size o = length (encode o)
 set_light : (last new : Op) → decided last new ≡ true → size (tested last) ≤ size last + size new
 unfolding encode value_bytes le64 le32 le16
 set_light last new e =
-    let a = both_true (eqb (kind_of new) 37 && eqb (kind_of last) 1 && eqb (arg_of new) 1) (eqb (length (values_of last)) 1) e in
-    let b = both_true (eqb (kind_of new) 37 && eqb (kind_of last) 1) (eqb (arg_of new) 1) a.0 in
-    let c = both_true (eqb (kind_of new) 37) (eqb (kind_of last) 1) b.0 in
-    let s : length (encode last) ≡ 6 + 8 * op_count last = set_size last (eqb-true (kind_of last) 1 c.1) in
-    let l : length (values_of last) ≡ 1 = eqb-true (length (values_of last)) 1 a.1 in
+    let a = and_left (eqb (kind_of new) 37 && eqb (kind_of last) 1 && eqb (arg_of new) 1) (eqb (length (values_of last)) 1) e in
+    let b = and_left (eqb (kind_of new) 37 && eqb (kind_of last) 1) (eqb (arg_of new) 1) a in
+    let c = and_right (eqb (kind_of new) 37) (eqb (kind_of last) 1) b in
+    let l = and_right (eqb (kind_of new) 37 && eqb (kind_of last) 1 && eqb (arg_of new) 1) (eqb (length (values_of last)) 1) e in
+    let s : length (encode last) ≡ 6 + 8 * op_count last = set_size last (eqb-true (kind_of last) 1 c) in
+    let n : length (values_of last) ≡ 1 = eqb-true (length (values_of last)) 1 l in
     let f = values_few last in
     let t : length (encode (tested last)) ≡ 14 = length_encode (tested last) in
     omega arith

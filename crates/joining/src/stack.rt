@@ -2,8 +2,8 @@
 ghost use Rattle.std.specs.Prelude.{◌≡◌, ◌∷◌, ◌+◌, ◌<◌, ◌≤◌};
 ghost use Rattle.basics.specs.Limits.{most_ops};
 
-use crate::source::{Entry, Source};
 use crate::met::{Met, meets, total};
+use crate::source::{Entry, Source};
 use kind_table::row;
 use patch_reader::reader::Read;
 

@@ -8,15 +8,14 @@ ghost use Rattle.joining.specs.Stack.{Within, stack, op_of, file};
 use crate::source::{Entry, Source};
 use crate::stack::Stack;
 use byte_fields::read::u32_at;
-use byte_fields::write::{copy_bytes, put_u32};
+use byte_fields::write::copy_bytes;
 
-pub fn put_u64(out: &mut [u8], at: usize, v: u64)
+// The 8 bytes of v, to byte `at`.
+fn put_u64(out: &mut [u8], at: usize, v: u64)
     requires { at + 8 ≤ length out.old }
     ensures { out.new ≡ placed out.old at (le64 v) }
 {
-    let n = v as usize;
-    put_u32(out, at, n);
-    put_u32(out, at + 4, n / 4294967296);
+    out[at..at + 8].copy_from_slice(&v.to_le_bytes());
 }
 
 // The record of an entry, at byte `at`; the byte after it.
