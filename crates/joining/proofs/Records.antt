@@ -33,8 +33,9 @@ use Rattle.file_laws.proofs.Items.{IsItem}
 use Rattle.file_laws.proofs.Rewritten.{record_again}
 use Rattle.file_laws.proofs.Written.{encode_append}
 use Rattle.joining.specs.Source.{item_at, Holds}
-use Rattle.joining.specs.Stack.{entry, valued, value_of, entry_at, op_within, op_of, top_down, file, Within}
-use Rattle.joining.specs.declared.source.Entry.{Entry}
+use Rattle.joining.specs.Stack.{entry, seen_of, valued, value_of, entry_at, op_within, op_of, top_down, file, Within}
+use Rattle.joining.specs.declared.entry.Entry.{Entry}
+use Rattle.joining.specs.declared.entry.Seen.{Seen}
 use Rattle.joining.proofs.StackIsOps.{is_item}
 
 -- ---- an op of the file
@@ -167,6 +168,10 @@ module _ (s ks ns ps : List ℕ) (n : ℕ) (h : Holds s ks ns ps n) (i : ℕ) (l
         rw (h.payloads i l) (within_changed s (item_at s i) d v w q)
 
 -- ---- an op as it stands in the file, and an entry as it is written
+
+-- whether an entry has a value of its own, by what is looked at of it
+pub own_by : (ks ns : List ℕ) (e : Entry) {d : Seen} {b : Bool} → d ≡ seen_of ks ns e → b ≡ valued d.row d.count → b ≡ valued (get_or ks e.op 0) (get_or ns e.op 0)
+own_by ks ns e q r = r ∙ ap (λ (d : Seen). valued d.row d.count) q
 
 module _ {s ks ns ps : List ℕ} {n : ℕ} (h : Holds s ks ns ps n) {i : ℕ} (l : i < n) where
   -- the entry of an op without a value of its own, and of one with it

@@ -26,7 +26,7 @@ use Rattle.joining.specs.declared.met.Met.{Met}
 use Rattle.joining.specs.declared.met.Met.TheVariants.{Push, Skip, Pop, Again, Test, Under, Sum}
 use Rattle.joining.specs.Source.{item_at, Holds}
 use Rattle.joining.specs.Stack.{entry, valued, value_of, cells, tests, meet, met, moved_on, react_on, push_on, entry_at, after, op_within, op_of, Within}
-use Rattle.joining.specs.declared.source.Entry.{Entry}
+use Rattle.joining.specs.declared.entry.Entry.{Entry}
 use Rattle.joining.proofs.Settled.{pushes_snoc}
 
 -- ---- what the code knows of an op

@@ -8,7 +8,7 @@ use lib.ListN.{length, get_or, set}
 use lib.Seq.{get_or-set_same, get_or-set_other}
 use borrow.Author.Tests.{eq-eqb, ne_eqb}
 use Rattle.lanes.specs.Int.{int_add}
-use Rattle.joining.specs.declared.source.Entry.{Entry}
+use Rattle.joining.specs.declared.entry.Entry.{Entry}
 use Rattle.joining.specs.Stack.{entry, moved_on, top_down}
 
 -- stores beyond the stack

@@ -11,8 +11,8 @@ use Rattle.ops.specs.Syntax.Plain.{move}
 use Rattle.ops.specs.Syntax.Sort.{ints}
 use Rattle.ops.specs.Syntax.Op.{set, plain}
 use Rattle.joining.specs.Source.{item_at}
-use Rattle.joining.specs.declared.source.Entry.{Entry}
-use Rattle.joining.specs.declared.source.Seen.{Seen}
+use Rattle.joining.specs.declared.entry.Entry.{Entry}
+use Rattle.joining.specs.declared.entry.Seen.{Seen}
 use Rattle.joining.specs.declared.met.Met.{Met}
 use Rattle.joining.specs.declared.met.Met.TheVariants.{Push, Skip, Pop, Again, Test, Under, Sum}
 use Rattle.joining.specs.declared.stack.Stack.{Stack}

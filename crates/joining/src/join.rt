@@ -3,7 +3,8 @@ ghost use Rattle.std.specs.Prelude.{◌≡◌, ◌≤◌};
 ghost use Rattle.joining.specs.Stack.{stack, after};
 ghost use Rattle.joining.specs.Joined.{outcome, join_of};
 
-use crate::source::{Entry, Source};
+use crate::entry::Entry;
+use crate::source::Source;
 use crate::stack::Stack;
 use crate::write::write_all;
 use answers::join::{JoinError, Joined};
@@ -16,7 +17,7 @@ fn push_all(source: &Source, left: &mut Stack)
 {
     left.n = 0;
     for i in 0..source.ops {
-        left.push(source, source.entry(i as u16));
+        left.push(source.read, source.entry(i as u16));
     }
 }
 

@@ -3,7 +3,7 @@ ghost use Rattle.std.specs.Prelude.{◌≡◌};
 ghost use Rattle.lanes.specs.Int.{int_add};
 ghost use Rattle.joining.specs.Stack.{meet};
 
-use crate::source::Seen;
+use crate::entry::Seen;
 use kind_table::row;
 use lanes::lane::{CellOp, LaneOp, cell_rule, lane_rule};
 

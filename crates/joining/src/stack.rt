@@ -2,8 +2,8 @@
 ghost use Rattle.std.specs.Prelude.{◌≡◌, ◌∷◌, ◌+◌, ◌<◌, ◌≤◌};
 ghost use Rattle.basics.specs.Limits.{most_ops};
 
+use crate::entry::Entry;
 use crate::met::{Met, meets, total};
-use crate::source::{Entry, Source};
 use kind_table::row;
 use patch_reader::reader::Read;
 
@@ -29,16 +29,16 @@ impl Stack {
     }
 
     // The push of a move.
-    pub fn put_move(&mut self, source: &Source, next: Entry)
+    pub fn put_move(&mut self, read: &Read, next: Entry)
         requires { self.old.n < most_ops }
         ensures few { self.new.n ≤ self.old.n + 1 }
-        ensures value { stack self.new ≡ moved_on source.now.read.now.rows (stack self.old) next }
+        ensures value { stack self.new ≡ moved_on read.now.rows (stack self.old) next }
     {
         if self.n == 0 {
             return self.put(next);
         }
         let last = self.entries[self.n - 1];
-        if source.row(last.op) != row::MOVE {
+        if last.seen(read).row != row::MOVE {
             return self.put(next);
         }
         self.n -= 1;
@@ -49,31 +49,31 @@ impl Stack {
     }
 
     // The push of an op.
-    pub fn push(&mut self, source: &Source, next: Entry)
+    pub fn push(&mut self, read: &Read, next: Entry)
         requires { self.old.n < most_ops }
         ensures few { self.new.n ≤ self.old.n + 1 }
-        ensures value { stack self.new ≡ push_on source.now.read.now.rows source.now.read.now.counts (stack self.old) next }
+        ensures value { stack self.new ≡ push_on read.now.rows read.now.counts (stack self.old) next }
     {
         if self.n == 0 {
             return self.put(next);
         }
         let last = self.entries[self.n - 1];
-        match meets(source.seen(last), source.seen(next)) {
+        match meets(last.seen(read), next.seen(read)) {
             Met::Push => self.put(next),
             Met::Skip => {}
             Met::Pop => self.n -= 1,
             Met::Again => {
                 self.n -= 1;
-                self.push(source, next);
+                self.push(read, next);
             }
             Met::Test(value) => {
                 self.n -= 1;
-                self.push(source, Entry { op: last.op, value });
+                self.push(read, Entry { op: last.op, value });
             }
             Met::Under => {
                 self.n -= 1;
-                self.push(source, next);
-                self.put_move(source, last);
+                self.push(read, next);
+                self.put_move(read, last);
             }
             Met::Sum(value) => {
                 self.n -= 1;

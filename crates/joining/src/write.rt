@@ -5,7 +5,8 @@ ghost use Rattle.byte_fields.specs.Bytes.{le64};
 ghost use Rattle.ops.specs.Write.{encode, Below};
 ghost use Rattle.joining.specs.Stack.{Within, stack, op_of, file};
 
-use crate::source::{Entry, Source};
+use crate::entry::Entry;
+use crate::source::Source;
 use crate::stack::Stack;
 use byte_fields::read::u32_at;
 use byte_fields::write::copy_bytes;
@@ -27,7 +28,7 @@ pub fn write_op(source: &Source, entry: Entry, out: &mut [u8], at: usize) -> usi
     ensures value { out.new ≡ placed out.old at (encode (op_of source.now.bytes.now entry)) }
 {
     let from = source.payload(entry.op) - 6;
-    if source.has_value(entry.op) {
+    if entry.seen(source.read).has_value() {
         copy_bytes(out, at, source.bytes, from, 6);
         put_u64(out, at + 6, entry.value);
         return at + 14;

@@ -1,12 +1,15 @@
 -- `joining::write::write_op` meets its contract. Assumes nothing.
 use native.Mathlib.Omega.{arith}
-use Rattle.joining.proofs.Records.{Writes, place_after, has_length, asks_head, asks_eight, wrote_changed, asks_record, wrote_kept}
+use Rattle.joining.proofs.Records.{Writes, own_by, place_after, has_length, asks_head, asks_eight, wrote_changed, asks_record, wrote_kept}
 use Rattle.joining.proofs.write.write_op.Goals as goal
 use Rattle.joining.proofs.write.write_op.Goals.{After-has_value}
 
 writes : (c : After-has_value) → let a = c.args in let r = a.source.now in
     Writes r.bytes.now r.read.now.rows r.read.now.counts r.read.now.payloads a.out.now r.ops a.entry a.at c.payload-from.result c.has_value.result
-writes c = search
+writes c =
+    let r = c.args.source.now.read.now in
+    let own = own_by r.rows r.counts c.args.entry c.seen.ensures c.has_value.ensures in
+    search
 
 pub overflow_sub-from : goal.overflow_sub-from
 overflow_sub-from c = rw c.payload-from.ensures (place_after _ _ _ _ _ c.args.source.now.holds _ c.requires.within)
