@@ -11,12 +11,11 @@ use lib.Seq.{drop-drop}
 use Rattle.std.proofs.Common.{Result, Ok, Err}
 use Rattle.basics.proofs.Clash.{clash}
 use Rattle.ops.specs.declared.refusals.Refusal.{Refusal}
-use Rattle.ops.specs.declared.refusals.Refusal.TheVariants.{CutShort, WrongLength, UnknownKind, LeftOut, TooManyLanes, WrongNumber, TooManyOps, TooManyMarks, FileTooLong}
+use Rattle.ops.specs.declared.refusals.Refusal.TheVariants.{TooManyOps, TooManyMarks, FileTooLong}
 use Rattle.ops.specs.declared.refusals.Fault.{Fault}
 use Rattle.ops.specs.declared.records.Record.{Record}
 use Rattle.byte_fields.specs.Bytes.{u16_at, u32_at, text_at, le16, le32}
 use Rattle.kind_table.specs.Kinds.{shape, kind_at, index_of}
-use Rattle.ops.specs.Refusals.{number_of}
 use Rattle.ops.specs.Record.{whole, record_at, length_ok, count_of, named_of, last_of}
 use Rattle.ops.specs.Syntax.{Plain, Op, kind_of}
 use Rattle.ops.specs.Syntax.Plain.{comment, store, move, swap, locate, offset, deref, refer, cell, lane, get, put, peek, poke, ffi_call, alloc, free}
@@ -29,6 +28,7 @@ use Rattle.byte_fields.proofs.TextAt.{length_text}
 use Rattle.file_laws.proofs.BytesBack.{text_add, back16, back32, back64, back_values}
 use Rattle.file_laws.proofs.Rows.{rule, row_rule}
 use Rattle.patch_reader.proofs.Whole.{tells}
+use Rattle.patch_reader.proofs.Reading.{numbered}
 use Rattle.file_laws.proofs.Meaning.{means}
 
 -- ---- the payload
@@ -146,25 +146,13 @@ module _ (s : List ℕ) (w : Below 256 s) where
 
 -- ---- the file
 
-some_number : (r : Refusal) → number_of r ≡ 0 → ⊥
-unfolding number_of
-some_number CutShort e = omega arith
-some_number WrongLength e = omega arith
-some_number UnknownKind e = omega arith
-some_number LeftOut e = omega arith
-some_number TooManyLanes e = omega arith
-some_number WrongNumber e = omega arith
-some_number TooManyOps e = omega arith
-some_number TooManyMarks e = omega arith
-some_number FileTooLong e = omega arith
-
 module _ (s : List ℕ) (w : Below 256 s) where
   -- what was loaded from byte p on, with no refusal, is written as the rest of the file
   abbrev Again : ℕ → Loaded → Type 0
   Again p l = l.number ≡ 0 → encode_all (map (op_at s) l.items) ≡ drop p s
 
   refused_again : (p : ℕ) (r : Refusal) (q : ℕ) → Again p (stop r q)
-  refused_again p r q z = absurd (some_number r z)
+  refused_again p r q z = let t = rw z at (numbered r) in clash (cc)
 
   past_end : (b : Bool) (p : ℕ) (l : Loaded) → ltb p (length s) ≡ b → Again p l → Again p (cond b l (ending 0 0))
   unfolding encode_all

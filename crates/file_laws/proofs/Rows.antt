@@ -3,7 +3,6 @@ use mathlib.Core.Path.{◌≡◌, ◌∙◌, refl, sym, ap}
 use mathlib.Core.Bool.{Bool, true, false, cond, ◌&&◌}
 use mathlib.Core.List.{List, [], ◌∷◌}
 use Prim.Native.Nat.{ℕ, ◌<◌}
-use native.Mathlib.Omega.{arith}
 use lib.Dec.{T, leb, eqb, eqb→eq}
 use lib.ListN.{get_or}
 use Rattle.kind_table.specs.Rows as row
@@ -155,17 +154,13 @@ all_right : (k : ℕ) → k < 62 → T (agrees k (row_at k) (kind_at k))
 unfolding kind_at index_of row_at rows right
 all_right k h = at right (kind Empty NoLane AsBefore) kinds tt k h
 
-clash : {P : Type 0} (b : Bool) → b ≡ false → T b → P
-clash true e t = let z : ◌≡◌ {A = ℕ} 0 1 = cc in absurd (omega arith)
-clash false e t = absurd t
-
 row_of : (k : ℕ) (out : Bool) → left_out (shape (kind_at k)) ≡ false
     → T (cond out (left_out (shape (kind_at k)))
     (eqb (index_of (kind_of (row_at k))) k
     && (same_shape (shape (kind_at k)) (shape (rule (row_at k)))
     && (same_need (need (kind_at k)) (need (rule (row_at k))) && same_known (after (kind_at k)) (after (rule (row_at k)))))))
     → Row k
-row_of k true l t = clash (left_out (shape (kind_at k))) l t
+row_of k true l t = absurd (rw l at t)
 row_of k false l t =
     let a = eqb (index_of (kind_of (row_at k))) k in
     let b = same_shape (shape (kind_at k)) (shape (rule (row_at k))) in

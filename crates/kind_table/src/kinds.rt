@@ -117,16 +117,11 @@ pub fn kind_at(k: usize) -> Kind
 pub fn index_of(number: usize) -> usize
     ensures { (result ≡ index_of number) × (result ≤ 62) }
 {
-    if number < CORE {
-        return number;
+    match number {
+        0..CORE => number,
+        STANDARD..BEYOND => number - ABOVE,
+        _ => COUNT,
     }
-    if number < STANDARD {
-        return COUNT;
-    }
-    if number < BEYOND {
-        return number - ABOVE;
-    }
-    COUNT
 }
 
 // The lanes that a run of an op of row k with n lanes asks for.

@@ -16,10 +16,7 @@ fn has_room(size: usize, at: usize, len: usize) -> bool
         return false;
     }
     let end = at + 6 + len;
-    if Record::FILE < end {
-        return false;
-    }
-    end <= size
+    end <= Record::FILE && end <= size
 }
 
 // The record of a kind's number and its payload, where it has room; the byte after it.

@@ -11,7 +11,7 @@ use ops::records::Record;
 use ops::refusals::{Fault, Refusal};
 
 // The ops that were read, each with its entry in the four columns: the row of its kind, its count, the lanes that a run of
-// it needs, and its payload's first byte.
+// it needs, and its payload's first byte. Columns and no array of ops: a check reads two of them alone, and a machine holds them so.
 #[derive(Drop)]
 pub struct Read {
     pub rows: [u8; Read::OPS],
@@ -65,7 +65,7 @@ impl Unread {
 pub fn mark_of(row: usize) -> usize
     ensures { (result ≡ mark_of row) × (result ≤ 1) }
 {
-    if row == bracket::FUNCTION { 1 } else { 0 }
+    usize::from(row == bracket::FUNCTION)
 }
 
 // Reads a whole patch file: how many ops it holds. Each op read has its entry in the columns, and the entries beyond keep
@@ -80,10 +80,12 @@ pub fn load(bytes: &[u8], read: &mut Read) -> Result<usize, Unread>
     if Record::FILE < bytes.len() {
         return Err(Unread::new(Refusal::FileTooLong.at(0), 0));
     }
+    // The place goes on by each record's own length, and the ops and the marks are counted beside it.
     let mut at: usize = 0;
     let mut n: usize = 0;
     let mut marks: usize = 0;
     while at < bytes.len() {
+        // By a match: of `map_err` and `?` the proof didn't close, since what a closure over n gives is not seen here.
         let record = match read_record(bytes, at) {
             Ok(record) => record,
             Err(fault) => return Err(Unread::new(fault, n)),
