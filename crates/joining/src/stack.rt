@@ -41,10 +41,11 @@ impl Stack {
         if last.seen(read).row != row::MOVE {
             return self.put(next);
         }
-        self.n -= 1;
-        let value = total(last.value, next.value);
-        if value != 0 {
-            self.put(Entry { op: last.op, value });
+        let sum = total(last.value, next.value);
+        if sum == 0 {
+            self.n -= 1;
+        } else {
+            self.entries[self.n - 1].value = sum;
         }
     }
 
@@ -75,10 +76,7 @@ impl Stack {
                 self.push(read, next);
                 self.put_move(read, last);
             }
-            Met::Sum(value) => {
-                self.n -= 1;
-                self.put(Entry { op: last.op, value });
-            }
+            Met::Sum(sum) => self.entries[self.n - 1].value = sum,
         }
     }
 }
