@@ -26,11 +26,10 @@ pub record Steers (k i : ℕ) (ks ps : List ℕ) : Type 0 where
   pub partner : get_or ps i 0 ≡ partner_at ks i
 
 -- a Call at place i, with d calls saved and f marks in the table; fs has the marks of the patch
-pub record CanCall (i d f : ℕ) (ks fs cs g ts : List ℕ) : Type 0 where
+pub record CanCall (i d f : ℕ) (ks fs g ts : List ℕ) : Type 0 where
   pub here : i < length ks
   pub few_ops : length ks ≤ limit.most_ops
   pub wide : limit.lanes ≤ length g
-  pub call_room : length cs ≡ limit.depth
   pub depth : d ≤ limit.depth
   pub functions : f ≤ length ts
   pub entered : f ≤ length fs

@@ -10,13 +10,13 @@ ghost use Rattle.partners.specs.Columns.{turns_of};
 ghost use Rattle.control_ops.specs.CanSteer.{Steers, CanCall};
 ghost use Rattle.control_ops.specs.Control.{jump_of, function_of, held_to, stands_in, call_of, ret_of, while_of, if_of, elses_of, ends_of};
 
-use basics::wide::wide_short;
 use kind_table::row;
 use machine_numbers::numbers::{DONE, HALTED, JUMPED, Numbers, RUST_TABLE, SIGN};
 use partners::scan;
 use searches::table;
 
 // After the op at e; 20 where there is none.
+#[tactic(auto, using(basics::proofs::Tests::tests), unfolding(basics::specs::Pick::pick, machine_numbers::specs::Numbers::left, crate::specs::Control::jump_of))]
 fn jump(at: usize, position: &mut usize, rows: &[u8], e: usize) -> u32
     requires { length rows.now ≤ limit.most_ops }
     ensures { (p : Numbers) → left result at (at_position p position.new) ≡ jump_of rows.now (at_position p at) e }
@@ -28,6 +28,7 @@ fn jump(at: usize, position: &mut usize, rows: &[u8], e: usize) -> u32
     JUMPED
 }
 
+#[tactic(auto, using(basics::proofs::Tests::tests, crate::proofs::Partners::function_end), unfolding(basics::specs::Pick::pick, machine_numbers::specs::Numbers::left, crate::specs::Control::function_of))]
 pub fn function(
     at: usize,
     position: &mut usize,
@@ -39,7 +40,7 @@ pub fn function(
     requires { Steers kind.function at rows.now partners.now × (functions.old ≤ length table.old) × Rising (take functions.old table.old) }
     ensures { (p : Numbers) → one_list (left result at (of_functions (at_position p position.new) functions.new)) table.new ≡ function_of rows.now (of_functions (at_position p at) functions.old) table.old }
 {
-    let end = wide_short(partners[at]);
+    let end = usize::from(partners[at]);
     let n = *functions;
     if rows.len() <= end {
         return 20;
@@ -50,6 +51,7 @@ pub fn function(
 }
 
 // What entry j of the table is held to: in the Rust's mode the table itself, by mark the marks.
+#[tactic(auto, using(basics::proofs::Tests::tests), unfolding(basics::specs::Pick::pick, crate::specs::Control::held_to))]
 fn held_to<'a>(mode: u32, table: &'a [u16], marks: &'a [u16]) -> &'a [u16]
     ensures { result.now ≡ held_to mode table.now marks.now }
 {
@@ -60,6 +62,7 @@ fn held_to<'a>(mode: u32, table: &'a [u16], marks: &'a [u16]) -> &'a [u16]
 }
 
 // Whether entry j of the table is the mark that is meant: in the Rust's mode, where it has so many; by mark, where it is the j-th mark too.
+#[tactic(auto, using(basics::proofs::Tests::tests, crate::proofs::Meant::held_same), unfolding(crate::specs::Control::stands_in))]
 fn stands<'a>(mode: u32, j: usize, n: usize, table: &'a [u16], marks: &'a [u16]) -> bool
     requires { (n ≤ length table.now) × (n ≤ length marks.now) }
     ensures { result ≡ stands_in mode j n table.now marks.now }
@@ -83,7 +86,7 @@ pub fn call(
     register: &[u64],
     table: &mut [u16],
 ) -> u32
-    requires { CanCall at depth.old functions.old rows.now marks.now calls.old register.now table.old }
+    requires { CanCall at depth.old functions.old rows.now marks.now register.now table.old }
     ensures { (p : Numbers) → steered (left result at (of_functions (of_depth (at_position (of_mode p mode) position.new) depth.new) functions.new)) calls.new table.new ≡ call_of rows.now (of_functions (of_depth (at_position (of_mode p mode) at) depth.old) functions.old) calls.old register.now table.old }
 {
     let d = *depth;
@@ -99,7 +102,7 @@ pub fn call(
     if stands(mode, j, n, table, marks) {
         calls[d] = at as u16;
         *depth = d + 1;
-        let to = wide_short(table[j]);
+        let to = usize::from(table[j]);
         *position = to + 1;
         return JUMPED;
     }
@@ -114,8 +117,9 @@ pub fn call(
     JUMPED
 }
 
+#[tactic(auto, using(basics::proofs::Tests::tests), unfolding(basics::specs::Pick::pick, machine_numbers::specs::Numbers::left, crate::specs::Control::ret_of))]
 pub fn ret(at: usize, position: &mut usize, depth: &mut usize, calls: &[u16; Numbers::CALLS]) -> u32
-    requires { (depth.old ≤ limit.depth) × (length calls.now ≡ limit.depth) }
+    requires { depth.old ≤ limit.depth }
     ensures { (p : Numbers) → left result at (of_depth (at_position p position.new) depth.new) ≡ ret_of (of_depth (at_position p at) depth.old) calls.now }
 {
     let d = *depth;
@@ -123,12 +127,13 @@ pub fn ret(at: usize, position: &mut usize, depth: &mut usize, calls: &[u16; Num
         return HALTED;
     }
     let e = d - 1;
-    let p = wide_short(calls[e]);
+    let p = usize::from(calls[e]);
     *depth = e;
     *position = p + 1;
     JUMPED
 }
 
+#[tactic(auto, using(basics::proofs::Tests::tests), unfolding(basics::specs::Pick::pick, machine_numbers::specs::Numbers::left, crate::specs::Control::while_of))]
 pub fn while_op(
     at: usize,
     position: &mut usize,
@@ -140,12 +145,13 @@ pub fn while_op(
     ensures { (p : Numbers) → left result at (at_position p position.new) ≡ while_of rows.now (at_position p at) register.now }
 {
     if register[0] == 0 {
-        let e = wide_short(partners[at]);
+        let e = usize::from(partners[at]);
         return jump(at, position, rows, e);
     }
     DONE
 }
 
+#[tactic(auto, using(basics::proofs::Tests::tests, crate::proofs::Partners::turn_here, crate::proofs::Partners::if_jump), unfolding(basics::specs::Pick::pick, machine_numbers::specs::Numbers::left, crate::specs::Control::if_of))]
 pub fn if_op(
     at: usize,
     position: &mut usize,
@@ -158,7 +164,7 @@ pub fn if_op(
     ensures { (p : Numbers) → left result at (at_position p position.new) ≡ if_of rows.now (at_position p at) register.now }
 {
     if register[0] == 0 {
-        let e = wide_short(partners[at]);
+        let e = usize::from(partners[at]);
         let to = scan::first_of(turns[at], e);
         return jump(at, position, rows, to);
     }
@@ -169,10 +175,11 @@ pub fn else_op(at: usize, position: &mut usize, rows: &[u8], partners: &[u16]) -
     requires { Steers kind.else at rows.now partners.now }
     ensures { (p : Numbers) → left result at (at_position p position.new) ≡ elses_of rows.now (at_position p at) }
 {
-    let e = wide_short(partners[at]);
+    let e = usize::from(partners[at]);
     jump(at, position, rows, e)
 }
 
+#[tactic(auto, using(basics::proofs::Tests::tests, crate::proofs::Partners::end_open), unfolding(basics::specs::Pick::pick, machine_numbers::specs::Numbers::left, crate::specs::Control::ends_of))]
 pub fn end(at: usize, position: &mut usize, rows: &[u8], partners: &[u16], register: &[u64]) -> u32
     requires { Steers kind.end at rows.now partners.now × (limit.lanes ≤ length register.now) }
     ensures { (p : Numbers) → left result at (at_position p position.new) ≡ ends_of rows.now (at_position p at) register.now }
@@ -180,7 +187,7 @@ pub fn end(at: usize, position: &mut usize, rows: &[u8], partners: &[u16], regis
     if register[0] == 0 {
         return DONE;
     }
-    let opener = wide_short(partners[at]);
+    let opener = usize::from(partners[at]);
     if rows.len() <= opener {
         return DONE;
     }

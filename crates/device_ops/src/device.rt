@@ -10,6 +10,7 @@ use ops::op::{Binding, Mode};
 use standard_device::bindings::CallError;
 use testing_device::device::{PeekError, PokeError};
 
+#[tactic(auto, unfolding(machine_numbers::specs::Numbers::left, crate::specs::Device::getting_of))]
 pub fn get(mode: Mode, taken: &mut usize, register: &mut [u64], input: &[u64]) -> u32
     requires { limit.lanes ≤ length register.old }
     ensures { (p : Numbers) → one_list (onward result (of_taken p taken.new)) register.new ≡ getting_of mode (of_taken p taken.old) register.old input.now }
@@ -24,6 +25,7 @@ pub fn get(mode: Mode, taken: &mut usize, register: &mut [u64], input: &[u64]) -
     }
 }
 
+#[tactic(auto, unfolding(machine_numbers::specs::Numbers::left, crate::specs::Device::putting_of))]
 pub fn put(mode: Mode, written: &mut usize, register: &[u64], output: &mut [u64]) -> u32
     requires { limit.lanes ≤ length register.now }
     ensures { (p : Numbers) → one_list (onward result (of_written p written.new)) output.new ≡ putting_of mode (of_written p written.old) register.now output.old }
@@ -37,6 +39,7 @@ pub fn put(mode: Mode, written: &mut usize, register: &[u64], output: &mut [u64]
     }
 }
 
+#[tactic(auto, unfolding(machine_numbers::specs::Numbers::left, crate::specs::Device::peeking_of))]
 pub fn peek(first: &mut usize, waiting: &mut usize, register: &mut [u64], channel: &[u64]) -> u32
     requires { limit.lanes ≤ length register.old }
     ensures { (p : Numbers) → one_list (onward result (of_ring p first.new waiting.new)) register.new ≡ peeking_of (of_ring p first.old waiting.old) register.old channel.now }
@@ -53,6 +56,7 @@ pub fn peek(first: &mut usize, waiting: &mut usize, register: &mut [u64], channe
     }
 }
 
+#[tactic(auto, unfolding(machine_numbers::specs::Numbers::left, crate::specs::Device::poking_of))]
 pub fn poke(first: usize, waiting: &mut usize, register: &[u64], channel: &mut [u64]) -> u32
     requires { limit.lanes ≤ length register.now }
     ensures { (p : Numbers) → one_list (onward result (of_ring p first waiting.new)) channel.new ≡ poking_of (of_ring p first waiting.old) register.now channel.old }
@@ -67,6 +71,7 @@ pub fn poke(first: usize, waiting: &mut usize, register: &[u64], channel: &mut [
     }
 }
 
+#[tactic(auto, unfolding(machine_numbers::specs::Numbers::left, crate::specs::Device::calling_of))]
 pub fn ffi_call(
     binding: Binding,
     first: &mut usize,

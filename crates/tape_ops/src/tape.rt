@@ -6,7 +6,6 @@ ghost use Rattle.machine_numbers.specs.declared.numbers.Numbers.{Numbers};
 ghost use Rattle.machine_numbers.specs.Numbers.{at_pointer, of_length, of_lanes, of_saved, onward, one_list};
 ghost use Rattle.tape_ops.specs.Tape.{reach, set_of, load_of, store_of, move_of, where_of, deref_of, refer_of, stocked, alloc_of};
 
-use basics::wide::wide_int;
 use machine_numbers::cells::have;
 use machine_numbers::numbers::{DONE, Numbers, SIGN};
 
@@ -25,6 +24,7 @@ fn size_of_negative(a: u64) -> usize
 }
 
 // The counted length, grown to reach beyond the place e.
+#[tactic(auto, using(basics::proofs::Tests::tests), unfolding(basics::specs::Pick::pick, crate::specs::Tape::reach))]
 fn grow(l: usize, e: usize) -> usize
     requires { (l ≤ limit.longest) × (e ≤ limit.farthest + limit.lanes) }
     ensures { result ≡ reach l e }
@@ -36,6 +36,7 @@ fn grow(l: usize, e: usize) -> usize
 }
 
 // The counted length that an Alloc begins with.
+#[tactic(auto, using(basics::proofs::Tests::tests), unfolding(basics::specs::Pick::pick, crate::specs::Tape::stocked))]
 fn stock(l: usize) -> usize
     requires { l ≤ limit.longest }
     ensures { (result ≡ stocked l) × (result ≤ limit.longest) × (0 < result) }
@@ -71,29 +72,21 @@ pub fn load(
     requires { (at ≤ limit.farthest) × (counted.old ≤ limit.longest) × (n ≤ limit.lanes) × (limit.lanes ≤ length register.old) }
     ensures { (p : Numbers) → one_list (onward result (of_lanes (of_length (at_pointer p at) counted.new) lanes.new)) register.new ≡ load_of n (of_lanes (of_length (at_pointer p at) counted.old) lanes.old) register.old tape.now }
 {
-    let l = *counted;
     if n == 1 {
         let r = have(23, tape.len(), at, 1);
         if r != DONE {
             return r;
         }
         lane_loops::loops::copy_one(register, &tape[at..]);
-        *lanes = n;
-        *counted = grow(l, at + n);
-        return DONE;
+    } else if n != 0 {
+        let r = have(23, tape.len(), at, n);
+        if r != DONE {
+            return r;
+        }
+        lane_loops::loops::copy_lanes(register, &tape[at..], n);
     }
-    if n == 0 {
-        *lanes = n;
-        *counted = grow(l, at + n);
-        return DONE;
-    }
-    let r = have(23, tape.len(), at, n);
-    if r != DONE {
-        return r;
-    }
-    lane_loops::loops::copy_lanes(register, &tape[at..], n);
     *lanes = n;
-    *counted = grow(l, at + n);
+    *counted = grow(*counted, at + n);
     DONE
 }
 
@@ -101,30 +94,25 @@ pub fn store(n: usize, at: usize, counted: &mut usize, register: &[u64], tape: &
     requires { (at ≤ limit.farthest) × (counted.old ≤ limit.longest) × (n ≤ limit.lanes) × (limit.lanes ≤ length register.now) }
     ensures { (p : Numbers) → one_list (onward result (of_length (at_pointer p at) counted.new)) tape.new ≡ store_of n (of_length (at_pointer p at) counted.old) register.now tape.old }
 {
-    let l = *counted;
     if n == 1 {
         let r = have(23, tape.len(), at, 1);
         if r != DONE {
             return r;
         }
         lane_loops::loops::copy_one(&mut tape[at..], register);
-        *counted = grow(l, at + n);
-        return DONE;
+    } else if n != 0 {
+        let r = have(23, tape.len(), at, n);
+        if r != DONE {
+            return r;
+        }
+        lane_loops::loops::copy_lanes(&mut tape[at..], register, n);
     }
-    if n == 0 {
-        *counted = grow(l, at + n);
-        return DONE;
-    }
-    let r = have(23, tape.len(), at, n);
-    if r != DONE {
-        return r;
-    }
-    lane_loops::loops::copy_lanes(&mut tape[at..], register, n);
-    *counted = grow(l, at + n);
+    *counted = grow(*counted, at + n);
     DONE
 }
 
 // Move: by the signed amount that the pattern a has.
+#[tactic(auto, using(basics::proofs::Tests::tests), unfolding(basics::specs::Pick::pick, machine_numbers::specs::Numbers::left, crate::specs::Tape::move_of))]
 pub fn move_op(a: u64, pointer: &mut usize) -> u32
     requires { pointer.old ≤ limit.farthest }
     ensures { (p : Numbers) → onward result (at_pointer p pointer.new) ≡ move_of a (at_pointer p pointer.old) }
@@ -146,6 +134,7 @@ pub fn move_op(a: u64, pointer: &mut usize) -> u32
     24
 }
 
+#[tactic(auto, unfolding(basics::specs::Pick::pick, machine_numbers::specs::Numbers::left, crate::specs::Tape::where_of))]
 pub fn where_op(at: usize, register: &mut [u64]) -> u32
     requires { limit.lanes ≤ length register.old }
     ensures { (p : Numbers) → one_list (onward result (at_pointer p at)) register.new ≡ where_of (at_pointer p at) register.old }
@@ -154,6 +143,7 @@ pub fn where_op(at: usize, register: &mut [u64]) -> u32
     DONE
 }
 
+#[tactic(auto, using(basics::proofs::Tests::tests), unfolding(basics::specs::Pick::pick, machine_numbers::specs::Numbers::left, crate::specs::Tape::deref_of))]
 pub fn deref(
     pointer: &mut usize,
     counted: &mut usize,
@@ -161,11 +151,10 @@ pub fn deref(
     refs: &mut [u32; Numbers::REFS],
     tape: &[u64],
 ) -> u32
-    requires { (pointer.old ≤ limit.farthest) × (counted.old ≤ limit.longest) × (length refs.old ≡ limit.depth) }
+    requires { (pointer.old ≤ limit.farthest) × (counted.old ≤ limit.longest) }
     ensures { (p : Numbers) → one_list (onward result (of_saved (of_length (at_pointer p pointer.new) counted.new) saved.new)) refs.new ≡ deref_of (of_saved (of_length (at_pointer p pointer.old) counted.old) saved.old) refs.old tape.now }
 {
     let at = *pointer;
-    let l = *counted;
     let s = *saved;
     if Numbers::REFS <= s {
         return 32;
@@ -181,23 +170,22 @@ pub fn deref(
         return 25;
     }
     refs[s] = at as u32;
-    *counted = grow(l, at);
+    *counted = grow(*counted, at);
     *saved = s + 1;
     *pointer = v as usize;
     DONE
 }
 
+#[tactic(auto, using(basics::proofs::Tests::tests), unfolding(basics::specs::Pick::pick, machine_numbers::specs::Numbers::left, crate::specs::Tape::refer_of))]
 pub fn refer(pointer: &mut usize, saved: &mut usize, refs: &[u32; Numbers::REFS]) -> u32
-    requires { (saved.old ≤ limit.depth) × (length refs.now ≡ limit.depth) }
+    requires { saved.old ≤ limit.depth }
     ensures { (p : Numbers) → onward result (of_saved (at_pointer p pointer.new) saved.new) ≡ refer_of (of_saved (at_pointer p pointer.old) saved.old) refs.now }
 {
-    let s = *saved;
-    if s == 0 {
+    if *saved == 0 {
         return 27;
     }
-    let e = s - 1;
-    *saved = e;
-    *pointer = wide_int(refs[e]);
+    *saved -= 1;
+    *pointer = refs[*saved] as usize;
     DONE
 }
 
@@ -205,9 +193,8 @@ pub fn alloc(counted: &mut usize, register: &mut [u64]) -> u32
     requires { (counted.old ≤ limit.longest) × (limit.lanes ≤ length register.old) }
     ensures { (p : Numbers) → one_list (onward result (of_length p counted.new)) register.new ≡ alloc_of (of_length p counted.old) register.old }
 {
-    let l = *counted;
     let v = register[0];
-    let g = stock(l);
+    let g = stock(*counted);
     // a negative lane is above every length too
     if ((Numbers::LENGTH - g) as u64) < v {
         return 30;

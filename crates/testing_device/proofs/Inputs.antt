@@ -1,5 +1,5 @@
 -- What Get reads: spaces passed, digits taken, and bounds of the value and the place. Assumes nothing.
-use Rattle.std.proofs.Common.{◌≡◌, ℕ, suc, ◌+◌, ◌-◌, ◌*◌, ◌%◌, ◌^◌, ◌<◌, ◌≤◌, Option, Some, None, true, leb, List, [], ◌∷◌, length, get_or, take, drop, refl, ap, ◌∙◌, subst, add-zero, add-one, arith, length-drop, drop-cons, drop-drop, leb-true, leb-false, max, sym}
+use Rattle.std.proofs.Common.{◌≡◌, ℕ, suc, ◌+◌, ◌-◌, ◌*◌, ◌%◌, ◌^◌, ◌<◌, ◌≤◌, Option, Some, None, true, leb, List, [], ◌∷◌, length, get_or, take, drop, refl, ◌∙◌, subst, add-zero, add-one, arith, length-drop, drop-cons, drop-drop, leb-true, leb-false, max, sym}
 use Rattle.basics.proofs.Tests.{by_case}
 use Rattle.ops.specs.declared.op.Mode.{Mode}
 use Rattle.ops.specs.declared.op.Mode.TheVariants.{Char, Int, Other}

@@ -7,7 +7,6 @@ use Rattle.machine_numbers.specs.Numbers.{left}
 use Rattle.partners.proofs.Marks.{nth_by}
 use Rattle.control_ops.specs.Control.{call_of}
 use Rattle.control_ops.proofs.Meant.{either, meant, not_meant}
-use borrow.Author.Rules.{rules}
 use Rattle.control_ops.proofs.control.call.Goals as goal
 
 pub returns-then-k-ge-SIGN : goal.returns-then-k-ge-SIGN
@@ -18,19 +17,11 @@ pub returns-then-d-ge-CALLS : goal.returns-then-d-ge-CALLS
 unfolding left pick call_of
 returns-then-d-ge-CALLS c = λ p. simp (le-leb _ _ c.if-d-ge-CALLS.true, lt-leb _ _ c.if-k-ge-SIGN.false)
 
-pub stands-requires : goal.stands-requires
-unfolding left pick call_of
-stands-requires c = search rules
-
 pub bounds-table-j : goal.bounds-table-j
 unfolding left pick call_of
 bounds-table-j c =
     let h = c.requires in
     omega (arith, (meant _ _ _ _ _ _ (sym c.stands.ensures ∙ c.if-stands.true) h.marks h.functions h.entered h.rising).0, h.functions)
-
-pub wide_short-to-requires : goal.wide_short-to-requires
-unfolding left pick call_of
-wide_short-to-requires c = search rules
 
 pub returns-then-stands : goal.returns-then-stands
 unfolding left pick call_of
@@ -38,7 +29,7 @@ returns-then-stands c =
     λ p.
     let h = c.requires in
     either (meant _ _ _ _ _ _ (sym c.stands.ensures ∙ c.if-stands.true) h.marks h.functions h.entered h.rising).1
-    (λ e. simp (e, lt-leb _ _ c.if-d-ge-CALLS.false, lt-leb _ _ c.if-k-ge-SIGN.false, c.wide_short-to.ensures.0))
+    (λ e. simp (e, lt-leb _ _ c.if-d-ge-CALLS.false, lt-leb _ _ c.if-k-ge-SIGN.false, c.from-to.ensures))
     (λ e. simp (
       e.by_mark,
       e.is,
@@ -47,12 +38,8 @@ returns-then-stands c =
       e.same,
       lt-leb _ _ c.if-d-ge-CALLS.false,
       lt-leb _ _ c.if-k-ge-SIGN.false,
-      c.wide_short-to.ensures.0,
+      c.from-to.ensures,
     ))
-
-pub nth_function-m-requires : goal.nth_function-m-requires
-unfolding left pick call_of
-nth_function-m-requires c = search rules
 
 pub returns-then-rows-m : goal.returns-then-rows-m
 unfolding left pick call_of
@@ -66,10 +53,6 @@ returns-then-rows-m c =
       lt-leb _ _ c.if-k-ge-SIGN.false,
       ← nth_by _ _ _ _ h.marks c.nth_function-m.ensures,
     )
-
-pub enter-requires : goal.enter-requires
-unfolding left pick call_of
-enter-requires c = search rules
 
 pub returns : goal.returns
 unfolding left pick call_of

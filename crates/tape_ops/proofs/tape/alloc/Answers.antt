@@ -4,12 +4,7 @@ use Rattle.basics.specs.Pick.{pick}
 use Rattle.machine_numbers.specs.Numbers.{left}
 use Rattle.tape_ops.specs.Tape.{alloc_of}
 use Rattle.tape_ops.proofs.Room.{too_much, enough}
-use borrow.Author.Rules.{rules}
 use Rattle.tape_ops.proofs.tape.alloc.Goals as goal
-
-pub stock-g-requires : goal.stock-g-requires
-unfolding left pick alloc_of
-stock-g-requires c = search rules
 
 pub returns-then-g-v : goal.returns-then-g-v
 unfolding left pick alloc_of

@@ -6,17 +6,9 @@ use Rattle.tape_ops.proofs.One.{set_one}
 use borrow.Author.Rules.{rules}
 use Rattle.tape_ops.proofs.tape.set.Goals as goal
 
-pub u64_at-requires : goal.u64_at-requires
-unfolding left pick set_of
-u64_at-requires c = search rules
-
 pub returns-then-n-eq1 : goal.returns-then-n-eq1
 unfolding left pick set_of
 returns-then-n-eq1 c = λ p. search (rules, c.if-n-eq1.true, c.u64_at.ensures, set_one)
-
-pub read_values-requires : goal.read_values-requires
-unfolding left pick set_of
-read_values-requires c = search rules
 
 pub returns : goal.returns
 unfolding left pick set_of

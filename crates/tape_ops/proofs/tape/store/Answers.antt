@@ -8,10 +8,7 @@ use Rattle.machine_numbers.proofs.Had.{refused, passed, inside}
 use Rattle.tape_ops.specs.Tape.{store_of}
 use borrow.Author.Rules.{rules}
 use Rattle.tape_ops.proofs.tape.store.Goals as goal
-
-pub have-r-requires : goal.have-r-requires
-unfolding left pick store_of
-have-r-requires c = search rules
+use Rattle.tape_ops.proofs.tape.store.Goals.{then-n-eq1+else-r-ne-DONE, else-n-eq1+then-n-ne0+else-r-ne-DONE-2, else-n-eq1+else-n-ne0}
 
 pub returns-then-r-ne-DONE : goal.returns-then-r-ne-DONE
 unfolding store_of
@@ -21,69 +18,40 @@ returns-then-r-ne-DONE c =
     rw c.if-n-eq1.true (refused 23 _ _ _ refl c.have-r.ensures (λ x. one_list x g) _ (one_list (answered 0 p) g) _ c.if-r-ne-DONE.true)
 
 pub slice_bounds-copy_one-count : goal.slice_bounds-copy_one-count
-unfolding left pick store_of
 slice_bounds-copy_one-count c = let h = inside 23 _ _ _ refl c.have-r.ensures c.if-r-ne-DONE.false refl in search rules
 
 pub slice_bounds-copy_one-start : goal.slice_bounds-copy_one-start
-unfolding left pick store_of
 slice_bounds-copy_one-start c = let h = inside 23 _ _ _ refl c.have-r.ensures c.if-r-ne-DONE.false refl in search rules
 
-pub copy_one-requires : goal.copy_one-requires
-unfolding left pick store_of
-copy_one-requires c = let h = inside 23 _ _ _ refl c.have-r.ensures c.if-r-ne-DONE.false refl in search rules
-
-pub grow-requires : goal.grow-requires
-unfolding left pick store_of
-grow-requires c = search rules
-
-pub returns-then-n-eq1 : goal.returns-then-n-eq1
-unfolding left pick store_of
-returns-then-n-eq1 c =
-    λ p.
-    let w = passed 23 _ _ _ refl c.have-r.ensures c.if-r-ne-DONE.false refl in
-    let a = c.args in
-    simp (c.if-n-eq1.true, w, c.copy_one.ensures, c.grow.ensures, rest_part, copied_back a.tape.now a.at)
-
-pub grow-requires-then-n-eq0 : goal.grow-requires-then-n-eq0
-unfolding left pick store_of
-grow-requires-then-n-eq0 c = search rules
-
-pub returns-then-n-eq0 : goal.returns-then-n-eq0
-unfolding left pick store_of
-returns-then-n-eq0 c = λ p. simp (eq-eqb _ _ c.if-n-eq0.true, c.grow-then-n-eq0.ensures)
-
-pub have-r-requires-2 : goal.have-r-requires-2
-unfolding left pick store_of
-have-r-requires-2 c = search rules
+pub copy_one-requires-clause-in_bounds : goal.copy_one-requires-clause-in_bounds
+copy_one-requires-clause-in_bounds c = let h = inside 23 _ _ _ refl c.have-r.ensures c.if-r-ne-DONE.false refl in search rules
 
 pub returns-then-r-ne-DONE-2 : goal.returns-then-r-ne-DONE-2
 unfolding store_of
 returns-then-r-ne-DONE-2 c =
     λ p.
     let g = c.args.tape.now in
-    refused 23 _ _ _ refl c.have-r-2.ensures (λ x. one_list x g) _ _ _ c.if-r-ne-DONE-2.true
+    refused 23 _ _ _ refl c.have-r-then-n-ne0.ensures (λ x. one_list x g) _ _ _ c.if-r-ne-DONE-2.true
 
 pub slice_bounds-copy_lanes-count : goal.slice_bounds-copy_lanes-count
-unfolding left pick store_of
-slice_bounds-copy_lanes-count c = let h = inside 23 _ _ _ refl c.have-r-2.ensures c.if-r-ne-DONE-2.false (ne_eqb _ _ c.if-n-eq0.false) in search rules
+slice_bounds-copy_lanes-count c = let h = inside 23 _ _ _ refl c.have-r-then-n-ne0.ensures c.if-r-ne-DONE-2.false (ne_eqb _ _ c.if-n-ne0.true) in search rules
 
 pub slice_bounds-copy_lanes-start : goal.slice_bounds-copy_lanes-start
-unfolding left pick store_of
-slice_bounds-copy_lanes-start c = let h = inside 23 _ _ _ refl c.have-r-2.ensures c.if-r-ne-DONE-2.false (ne_eqb _ _ c.if-n-eq0.false) in search rules
+slice_bounds-copy_lanes-start c = let h = inside 23 _ _ _ refl c.have-r-then-n-ne0.ensures c.if-r-ne-DONE-2.false (ne_eqb _ _ c.if-n-ne0.true) in search rules
 
-pub copy_lanes-requires : goal.copy_lanes-requires
-unfolding left pick store_of
-copy_lanes-requires c = let h = inside 23 _ _ _ refl c.have-r-2.ensures c.if-r-ne-DONE-2.false (ne_eqb _ _ c.if-n-eq0.false) in search rules
-
-pub grow-requires-2 : goal.grow-requires-2
-unfolding left pick store_of
-grow-requires-2 c = search rules
+pub copy_lanes-requires-clause-n_in_bounds : goal.copy_lanes-requires-clause-n_in_bounds
+copy_lanes-requires-clause-n_in_bounds c = let h = inside 23 _ _ _ refl c.have-r-then-n-ne0.ensures c.if-r-ne-DONE-2.false (ne_eqb _ _ c.if-n-ne0.true) in search rules
 
 pub returns : goal.returns
 unfolding left pick store_of
 returns c =
-    λ p.
-    let z = ne_eqb _ _ c.if-n-eq0.false in
-    let w = passed 23 _ _ _ refl c.have-r-2.ensures c.if-r-ne-DONE-2.false z in
-    let a = c.args in
-    simp (z, w, c.copy_lanes.ensures, c.grow-2.ensures, rest_part, copied_back a.tape.now a.at)
+    λ p. elim c.if-n-eq1.branch [
+      | then-n-eq1+else-r-ne-DONE w ↦
+          let h = passed 23 _ _ _ refl w.have-r.ensures w.if-r-ne-DONE.false refl in
+          simp (w.if-n-eq1.true, h, w.tape-is, w.copy_one.ensures, c.grow.ensures, rest_part, copied_back c.args.tape.now c.args.at)
+      | else-n-eq1+then-n-ne0+else-r-ne-DONE-2 w ↦
+          let z = ne_eqb _ _ w.if-n-ne0.true in
+          let h = passed 23 _ _ _ refl w.have-r-then-n-ne0.ensures w.if-r-ne-DONE-2.false z in
+          simp (z, h, w.tape-is, w.copy_lanes.ensures, c.grow.ensures, rest_part, copied_back c.args.tape.now c.args.at)
+      | else-n-eq1+else-n-ne0 w ↦ simp (eq-eqb _ _ w.if-n-ne0.false, w.tape-is, c.grow.ensures)
+    ]
