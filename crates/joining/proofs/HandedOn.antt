@@ -13,9 +13,8 @@ use Rattle.ops.specs.Decode.{Patch, ops_of}
 use Rattle.ops.specs.Decode.Patch.{ops, refused}
 use Rattle.ops.specs.Syntax.{Op}
 use Rattle.ops.specs.Write.{encode_all}
-use Rattle.answers.specs.Join.{number_of, length_of}
-use Rattle.answers.specs.declared.join.Joined.{Joined}
-use Rattle.answers.specs.declared.join.Joined.TheVariants.{BadFile, NoRoom, Written}
+use Rattle.answers.specs.Join.{Joining, number_of, length_of}
+use Rattle.std.specs.Prelude.{Ok, Err}
 use Rattle.partners.specs.Read.{patch_read}
 use Rattle.joining.specs.Join.{join}
 use Rattle.joining.specs.Joined.{Outcome, joined_as, join_of}
@@ -52,10 +51,9 @@ one_handed s out r q o p e f =
     let x = e ∙ sym f in
     (ap (λ (h : Handed). h.joined.answer) x, (ap (λ (h : Handed). h.joined.bytes) x, ap (λ (h : Handed). h.patch) x))
 
-nothing : (a : Joined) → (number_of a ≡ 0 → ⊥) → length_of a ≡ 0
-nothing (BadFile n p) z = refl
-nothing NoRoom z = refl
-nothing (Written n l) z = absurd (z refl)
+nothing : (a : Joining) → (number_of a ≡ 0 → ⊥) → length_of a ≡ 0
+nothing (Ok j) z = absurd (z refl)
+nothing (Err e) z = refl
 
 pub record HandedOn (s out : List ℕ) : Type 0 where
   pub written : (os : List Op) → ops_of s ≡ ops os → length s ≤ length out → (join_patch_of s out).patch ≡ patch_read (encode_all (join os))

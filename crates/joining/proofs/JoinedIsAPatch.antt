@@ -20,9 +20,9 @@ use Rattle.file_laws.proofs.Rewritten.{bytes_back}
 use Rattle.file_laws.proofs.RoundTrip.{ops_back}
 use Rattle.joining.specs.Join.{join}
 use Rattle.joining.specs.Joined.{Outcome, outcome, write, joined_as, join_of}
-use Rattle.answers.specs.Join.{number_of, place_of, length_of}
-use Rattle.answers.specs.declared.join.Joined.{Joined}
-use Rattle.answers.specs.declared.join.Joined.TheVariants.{NoRoom}
+use Rattle.answers.specs.Join.{Joining, number_of, place_of, length_of}
+use Rattle.answers.specs.declared.join.JoinError.TheVariants.{NoRoom}
+use Rattle.std.specs.Prelude.{Err}
 use Rattle.joining.proofs.Pushes.{weigh, join_light, join_has}
 use Rattle.joining.proofs.Sizes.{join_shorter}
 
@@ -69,7 +69,7 @@ joined_again s w os e =
 
 -- ---- the answers
 
-module _ (s out : List ℕ) (a : Joined) (out' : List ℕ) (e : outcome a out' ≡ join_of s out) where
+module _ (s out : List ℕ) (a : Joining) (out' : List ℕ) (e : outcome a out' ≡ join_of s out) where
   -- a bad file's own number and place, and nothing written
   pub says_refused : (n p : ℕ) → ops_of s ≡ refused n p → (number_of a ≡ n) × ((place_of a ≡ p) × (out' ≡ out))
   unfolding join_of
@@ -82,7 +82,7 @@ module _ (s out : List ℕ) (a : Joined) (out' : List ℕ) (e : outcome a out' �
     pub says_no_room : length out < length s → (number_of a ≡ 40) × ((place_of a ≡ 0) × (out' ≡ out))
     unfolding join_of
     says_no_room h =
-        let x : outcome a out' ≡ outcome NoRoom out = e ∙ ap (λ x. joined_as x s out) q ∙ rw (lt-ltb (length out) (length s) h) refl in
+        let x : outcome a out' ≡ outcome (Err NoRoom) out = e ∙ ap (λ x. joined_as x s out) q ∙ rw (lt-ltb (length out) (length s) h) refl in
         (ap (λ (o : Outcome). number_of o.answer) x, (ap (λ (o : Outcome). place_of o.answer) x, ap (λ (o : Outcome). o.bytes) x))
 
     -- 0, the result's op count and byte length, and the result over the start of the lent bytes
@@ -94,7 +94,7 @@ module _ (s out : List ℕ) (a : Joined) (out' : List ℕ) (e : outcome a out' �
         (ap (λ (o : Outcome). number_of o.answer) x, (ap (λ (o : Outcome). place_of o.answer) x, (ap (λ (o : Outcome). length_of o.answer) x, ap (λ (o : Outcome). o.bytes) x)))
 
   -- two answers that meet the contract of `join` coincide, and so do the bytes
-  pub one_answer : (b : Joined) (out'' : List ℕ) → outcome b out'' ≡ join_of s out → (a ≡ b) × (out' ≡ out'')
+  pub one_answer : (b : Joining) (out'' : List ℕ) → outcome b out'' ≡ join_of s out → (a ≡ b) × (out' ≡ out'')
   one_answer b out'' f =
       let x = e ∙ sym f in
       (ap (λ (o : Outcome). o.answer) x, ap (λ (o : Outcome). o.bytes) x)

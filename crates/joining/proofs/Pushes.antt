@@ -3,11 +3,11 @@
 use mathlib.Core.Path.{◌≡◌, refl, ap, ◌∙◌}
 use Prim.Native.Nat.{ℕ, ◌+◌, ◌≤◌}
 use native.Mathlib.Omega.{arith}
-use mathlib.Core.Bool.{Bool, true, false, cond, ◌&&◌}
+use mathlib.Core.Bool.{Bool, true, false, cond}
 use mathlib.Core.List.{List, [], ◌∷◌, ◌++◌, reverse, reverse-cons}
 use lib.Dec.{eqb}
 use borrow.Author.Tests.{eqb-true}
-use Rattle.basics.proofs.Clash.{clash}
+use Rattle.basics.proofs.Tests.{and_left, and_right}
 use Rattle.ops.specs.Syntax.{Op, kind_of}
 use Rattle.ops.specs.Syntax.Plain.{move}
 use Rattle.ops.specs.Syntax.Op.{plain}
@@ -32,10 +32,6 @@ op_move (last ∷ st) new e = rw e (by (eqb (kind_of last) 11) (eqb (total last 
 
 -- ---- which rules there are
 
-pub both_true : (a b : Bool) → (a && b) ≡ true → (a ≡ true) × (b ≡ true)
-both_true true b e = (refl, e)
-both_true false b e = clash (cc)
-
 -- what a rule says of the last op and the new one
 pub data Ruled (last new : Op) : Rule → Type 0 where
   pushed : Ruled last new push
@@ -58,8 +54,8 @@ ruled last new =
     (pick last new (both 13 14 last new) _ _ (λ e. popped)
     (pick last new (both 7 8 last new) _ _ (λ e. renewed)
     (pick last new (both 11 14 last new) _ _ (λ e. renewed)
-    (pick last new (both 11 1 last new) _ _ (λ e. swapped (eqb-true (kind_of last) 11 (both_true (eqb (kind_of new) 1) (eqb (kind_of last) 11) e).1))
-    (pick last new (both 11 16 last new) _ _ (λ e. swapped (eqb-true (kind_of last) 11 (both_true (eqb (kind_of new) 16) (eqb (kind_of last) 11) e).1))
+    (pick last new (both 11 1 last new) _ _ (λ e. swapped (eqb-true (kind_of last) 11 (and_right _ _ e)))
+    (pick last new (both 11 16 last new) _ _ (λ e. swapped (eqb-true (kind_of last) 11 (and_right _ _ e)))
     (pick last new (alike 9 9 last new) _ _ (λ e. skipped)
     (pick last new (alike 10 10 last new) _ _ (λ e. skipped)
     (pick last new (alike 9 10 last new) _ _ (λ e. skipped)
@@ -69,8 +65,9 @@ ruled last new =
   where
     moves : both 11 11 last new ≡ true → Ruled last new (cond (eqb (total last new) 0) pop (sum (total last new)))
     moves e =
-        let w = both_true (eqb (kind_of new) 11) (eqb (kind_of last) 11) e in
-        pick last new (eqb (total last new) 0) _ _ (λ z. popped) (summed (eqb-true (kind_of last) 11 w.1) (eqb-true (kind_of new) 11 w.0))
+        let f = eqb-true (kind_of last) 11 (and_right (eqb (kind_of new) 11) (eqb (kind_of last) 11) e) in
+        let g = eqb-true (kind_of new) 11 (and_left (eqb (kind_of new) 11) (eqb (kind_of last) 11) e) in
+        pick last new (eqb (total last new) 0) _ _ (λ z. popped) (summed f g)
 
 -- ---- weights
 

@@ -1,8 +1,8 @@
 -- The record of an entry: it is the file's record, with the entry's value if it has one of its own. And the files of a stack's entries, one after
 -- another. Assumes nothing.
 use mathlib.Core.Path.{◌≡◌, refl, ap, ap₂, sym, ◌∙◌}
-use Prim.Native.Nat.{ℕ, zero, suc, ◌+◌, ◌-◌, ◌/◌, ◌%◌, ◌<◌, ◌≤◌, zero-le}
-use native.Mathlib.Nat.{not-suc-le-zero, zero-add, add-zero, le_refl, le_antisymm}
+use Prim.Native.Nat.{ℕ, zero, suc, ◌+◌, ◌-◌, ◌/◌, ◌%◌, ◌<◌, ◌≤◌}
+use native.Mathlib.Nat.{not-suc-le-zero, zero-add, add-zero, le_refl}
 use native.Mathlib.Numerals.{add-one}
 use native.Mathlib.Omega.{arith}
 use mathlib.Core.Bool.{Bool, true, false, cond}
@@ -10,6 +10,7 @@ use mathlib.Core.List.{List, [], ◌∷◌, ◌++◌, map, reverse, reverse-cons
 use lib.Dec.{eqb}
 use lib.ListN.{length, get_or, take, drop, length-append}
 use lib.Seq.{take_at}
+use Rattle.std.proofs.lemmas.List.{get_or-take, length-take}
 use borrow.Author.Tests.{eqb-true, eqb-false, eq-eqb, ne_eqb}
 use Rattle.basics.proofs.Clash.{clash}
 use Rattle.byte_fields.specs.Bytes.{u32_at, u64_at, values_at, text_at, le16, le32, le64}
@@ -31,7 +32,10 @@ use Rattle.patch_reader.proofs.Whole.{tells}
 use Rattle.file_laws.proofs.Items.{IsItem}
 use Rattle.file_laws.proofs.Rewritten.{record_again}
 use Rattle.file_laws.proofs.Written.{encode_append}
-use Rattle.joining.specs.Stack.{Entry, entry, valued, value_of, push_on, item_at, Holds, after, op_within, op_of, stack, file, Within}
+use Rattle.joining.specs.Source.{item_at, Holds}
+use Rattle.joining.specs.Stack.{entry, seen_of, valued, value_of, entry_at, op_within, op_of, top_down, file, Within}
+use Rattle.joining.specs.declared.entry.Entry.{Entry}
+use Rattle.joining.specs.declared.entry.Seen.{Seen}
 use Rattle.joining.proofs.StackIsOps.{is_item}
 
 -- ---- an op of the file
@@ -163,111 +167,84 @@ module _ (s ks ns ps : List ℕ) (n : ℕ) (h : Holds s ks ns ps n) (i : ℕ) (l
         let q : valued (item_at s i).row (item_at s i).count ≡ true = rw (h.rows i l, h.counts i l) at e in
         rw (h.payloads i l) (within_changed s (item_at s i) d v w q)
 
--- ---- one op, as the code reads it and writes it
+-- ---- an op as it stands in the file, and an entry as it is written
 
--- op i, of kind k, count c and place p
-pub record Reads (s ks ns ps : List ℕ) (n i k c p : ℕ) : Type 0 where
+-- whether an entry has a value of its own, by what is looked at of it
+pub own_by : (ks ns : List ℕ) (e : Entry) {d : Seen} {b : Bool} → d ≡ seen_of ks ns e → b ≡ valued d.row d.count → b ≡ valued (get_or ks e.op 0) (get_or ns e.op 0)
+own_by ks ns e q r = r ∙ ap (λ (d : Seen). valued d.row d.count) q
+
+module _ {s ks ns ps : List ℕ} {n : ℕ} (h : Holds s ks ns ps n) {i : ℕ} (l : i < n) where
+  -- the entry of an op without a value of its own, and of one with it
+  pub entry_none : valued (get_or ks i 0) (get_or ns i 0) ≡ false → entry i 0 ≡ entry_at s i
+  unfolding value_of
+  entry_none e =
+      let q : valued (item_at s i).row (item_at s i).count ≡ false = rw (h.rows i l, h.counts i l) at e in
+      rw q refl
+
+  pub entry_own : valued (get_or ks i 0) (get_or ns i 0) ≡ true → entry i (u64_at s (get_or ps i 0)) ≡ entry_at s i
+  unfolding value_of
+  entry_own e =
+      let q : valued (item_at s i).row (item_at s i).count ≡ true = rw (h.rows i l, h.counts i l) at e in
+      rw (q, h.payloads i l) refl
+
+-- an entry to be written at byte `at`: its payload is at p in the file, and b is whether it has a value of its own
+pub record Writes (s ks ns ps out : List ℕ) (n : ℕ) (e : Entry) (at p : ℕ) (b : Bool) : Type 0 where
   pub held : Holds s ks ns ps n
-  pub there : i < n
-  pub kind : k ≡ get_or ks i 0
-  pub count : c ≡ get_or ns i 0
-  pub place : p ≡ get_or ps i 0
+  pub there : e.op < n
+  pub bytes : Below 256 s
+  pub room : at + length (encode (op_of s e)) ≤ length out
+  pub place : p ≡ get_or ps e.op 0
+  pub own : b ≡ valued (get_or ks e.op 0) (get_or ns e.op 0)
 
-module _ {s ks ns ps : List ℕ} {n i k c p : ℕ} (g : Reads s ks ns ps n i k c p) where
-  pub has_head : 6 ≤ p
-  has_head = rw g.place (place_after s ks ns ps n g.held i g.there)
-
+module _ {s ks ns ps out : List ℕ} {n at p : ℕ} {e : Entry} {b : Bool} (g : Writes s ks ns ps out n e at p b) where
   head_fits : p - 6 + 6 ≤ length s
-  head_fits = rw g.place (head_within s ks ns ps n g.held i g.there)
+  head_fits = rw g.place (head_within s ks ns ps n g.held e.op g.there)
 
   pub has_length : p - 6 + 4 ≤ length s
   has_length = omega (arith, head_fits)
 
-  pub asks_value : valued k c ≡ true → p + 8 ≤ length s
-  asks_value t = rw g.place (value_within s ks ns ps n g.held i g.there (rw (g.kind, g.count) at t))
-
-  value_is : value_of s k c p ≡ value_of s (item_at s i).row (item_at s i).count (item_at s i).payload
-  value_is = rw (g.kind, g.count, g.place, g.held.rows i g.there, g.held.counts i g.there, g.held.payloads i g.there)
-
--- with the value v, at byte `at`
-pub record Writes (s ks ns ps out : List ℕ) (n i v at k c p : ℕ) : Type 0 where
-  pub op : Reads s ks ns ps n i k c p
-  pub bytes : Below 256 s
-  pub room : at + length (encode (op_of s (entry i v))) ≤ length out
-
--- b is whether it has a value of its own
-module _ {s ks ns ps out : List ℕ} {n i v at k c p : ℕ} (g : Writes s ks ns ps out n i v at k c p) {b : Bool} (q : b ≡ valued k c) where
   module _ (t : b ≡ true) where
-    same_changed : encode (op_of s (entry i v)) ≡ text_at s (p - 6) 6 ++ le64 v
-    same_changed = rw g.op.place (record_changed s ks ns ps n g.op.held i g.op.there v g.bytes (rw (g.op.kind, g.op.count) at (sym q ∙ t)))
+    same_changed : encode (op_of s e) ≡ text_at s (p - 6) 6 ++ le64 e.value
+    same_changed = rw g.place (record_changed s ks ns ps n g.held e.op g.there e.value g.bytes (sym g.own ∙ t))
 
     head_long : length (text_at s (p - 6) 6) ≡ 6
-    head_long = length_text s (p - 6) 6 (head_fits g.op)
+    head_long = length_text s (p - 6) 6 head_fits
 
-    long_changed : length (encode (op_of s (entry i v))) ≡ 14
-    long_changed = ap length same_changed ∙ length-append (text_at s (p - 6) 6) (le64 v) ∙ ap₂ (λ (a b : ℕ). a + b) head_long (length_le64 v)
+    long_changed : length (encode (op_of s e)) ≡ 14
+    long_changed = ap length same_changed ∙ length-append (text_at s (p - 6) 6) (le64 e.value) ∙ ap₂ (λ (a b : ℕ). a + b) head_long (length_le64 e.value)
 
     pub asks_head : (at + 6 ≤ length out) × (p - 6 + 6 ≤ length s)
-    asks_head = (omega (arith, g.room, long_changed), head_fits g.op)
+    asks_head = (omega (arith, g.room, long_changed), head_fits)
 
     pub asks_eight : at + 6 + 8 ≤ length out
     asks_eight = omega (arith, g.room, long_changed)
 
-    pub wrote_changed : {a b : List ℕ} → a ≡ placed out at (text_at s (p - 6) 6) → b ≡ placed a (at + 6) (le64 v)
-        → (at + 14 ≡ at + length (encode (op_of s (entry i v)))) × (b ≡ placed out at (encode (op_of s (entry i v))))
-    wrote_changed e f = (
+    pub wrote_changed : {a b : List ℕ} → a ≡ placed out at (text_at s (p - 6) 6) → b ≡ placed a (at + 6) (le64 e.value)
+        → (at + 14 ≡ at + length (encode (op_of s e))) × (b ≡ placed out at (encode (op_of s e)))
+    wrote_changed q r = (
       ap (λ (j : ℕ). at + j) (sym long_changed),
-      f
-          ∙ ap (λ (o : List ℕ). placed o (at + 6) (le64 v)) e
-          ∙ placed_then out at (text_at s (p - 6) 6) (le64 v) (at + 6) (ap (λ (j : ℕ). at + j) head_long) asks_head.0
+      r
+          ∙ ap (λ (o : List ℕ). placed o (at + 6) (le64 e.value)) q
+          ∙ placed_then out at (text_at s (p - 6) 6) (le64 e.value) (at + 6) (ap (λ (j : ℕ). at + j) head_long) asks_head.0
           ∙ ap (placed out at) (sym same_changed),
     )
 
   module _ (t : b ≡ false) {u : ℕ} (eu : u ≡ u32_at s (p - 6)) where
-    same_kept : encode (op_of s (entry i v)) ≡ text_at s (p - 6) (u + 4)
-    same_kept = rw (eu, g.op.place) (record_kept s ks ns ps n g.op.held i g.op.there v g.bytes (rw (g.op.kind, g.op.count) at (sym q ∙ t)))
+    same_kept : encode (op_of s e) ≡ text_at s (p - 6) (u + 4)
+    same_kept = rw (eu, g.place) (record_kept s ks ns ps n g.held e.op g.there e.value g.bytes (sym g.own ∙ t))
 
     fits_kept : p - 6 + (u + 4) ≤ length s
-    fits_kept = rw (eu, g.op.place) (record_within s ks ns ps n g.op.held i g.op.there)
+    fits_kept = rw (eu, g.place) (record_within s ks ns ps n g.held e.op g.there)
 
-    long_kept : length (encode (op_of s (entry i v))) ≡ u + 4
+    long_kept : length (encode (op_of s e)) ≡ u + 4
     long_kept = ap length same_kept ∙ length_text s (p - 6) (u + 4) fits_kept
 
     pub asks_record : (at + (u + 4) ≤ length out) × (p - 6 + (u + 4) ≤ length s)
     asks_record = (omega (arith, g.room, long_kept), fits_kept)
 
     pub wrote_kept : {a : List ℕ} → a ≡ placed out at (text_at s (p - 6) (u + 4))
-        → (at + (u + 4) ≡ at + length (encode (op_of s (entry i v)))) × (a ≡ placed out at (encode (op_of s (entry i v))))
-    wrote_kept e = (ap (λ (j : ℕ). at + j) (sym long_kept), e ∙ ap (placed out at) (sym same_kept))
-
--- ---- one push after another
-
--- i of the m ops are pushed, and n entries are left
-pub record Pushed (s ks ns : List ℕ) (m : ℕ) (is₀ vs₀ is vs : List ℕ) (n i : ℕ) : Type 0 where
-  pub within : i ≤ m
-  pub few : n ≤ i
-  pub same : stack is vs n ≡ after s ks ns i
-  pub ops : length is ≡ length is₀
-  pub values : length vs ≡ length vs₀
-
-pub none_pushed : {s ks ns is vs : List ℕ} {m : ℕ} → Pushed s ks ns m is vs is vs 0 0
-none_pushed = record { within = zero-le; few = zero-le; same = refl; ops = refl; values = refl }
-
-module _ {s ks ns is₀ vs₀ is vs : List ℕ} {m n i : ℕ} (w : Pushed s ks ns m is₀ vs₀ is vs n i) where
-  pub more_pushed : {ps : List ℕ} {k c p v : ℕ} → Reads s ks ns ps m i k c p → v ≡ value_of s k c p → (r : ℕ) (is' vs' : List ℕ)
-      → (r ≤ n + 1) × (stack is' vs' r ≡ push_on ks ns (stack is vs n) (entry i v)) → length is' ≡ length is → length vs' ≡ length vs
-      → Pushed s ks ns m is₀ vs₀ is' vs' r (i + 1)
-  more_pushed {v = v} g e r is' vs' q a b =
-      record {
-        within = omega (arith, g.there);
-        few = omega (arith, w.few, q.0);
-        same = rw add-one (q.1 ∙ ap (λ (st : List Entry). push_on ks ns st (entry i v)) w.same ∙ ap (λ (j : ℕ). push_on ks ns (after s ks ns i) (entry i j)) (e ∙ value_is g));
-        ops = a ∙ w.ops;
-        values = b ∙ w.values;
-      }
-
-  pub all_pushed : m ≤ i → (n ≤ m) × (stack is vs n ≡ after s ks ns m)
-  all_pushed l = (omega (arith, w.few, w.within), w.same ∙ ap (after s ks ns) (le_antisymm w.within l))
+        → (at + (u + 4) ≡ at + length (encode (op_of s e))) × (a ≡ placed out at (encode (op_of s e)))
+    wrote_kept q = (ap (λ (j : ℕ). at + j) (sym long_kept), q ∙ ap (placed out at) (sym same_kept))
 
 -- ---- one entry after another
 
@@ -278,34 +255,34 @@ file_more s e st =
     ∙ encode_append (reverse (map (op_of s) st)) (op_of s e ∷ [])
     ∙ ap (λ (l : List ℕ). file s st ++ l) (append-nil (encode (op_of s e)))
 
-module _ (s is vs : List ℕ) where
+module _ (s : List ℕ) (es : List Entry) where
   abbrev written : ℕ → List ℕ
-  written j = file s (stack is vs j)
+  written j = file s (top_down es j)
 
-  written_more : (j : ℕ) → written (j + 1) ≡ written j ++ encode (op_of s (entry (get_or is j 0) (get_or vs j 0)))
-  written_more j = rw add-one (file_more s (entry (get_or is j 0) (get_or vs j 0)) (stack is vs j))
+  written_more : (j : ℕ) → written (j + 1) ≡ written j ++ encode (op_of s (get_or es j (entry 0 0)))
+  written_more j = rw add-one (file_more s (get_or es j (entry 0 0)) (top_down es j))
 
   written_long : (j k : ℕ) → length (written j) ≤ length (written (j + k))
   written_long j zero = rw (add-zero) (le_refl (length (written j)))
   written_long j (suc k) =
       let e : j + suc k ≡ (j + k) + 1 = omega arith in
-      rw (e, written_more (j + k), length-append (written (j + k)) (encode (op_of s (entry (get_or is (j + k) 0) (get_or vs (j + k) 0)))))
+      rw (e, written_more (j + k), length-append (written (j + k)) (encode (op_of s (get_or es (j + k) (entry 0 0)))))
       (omega (arith, written_long j k))
 
   -- there is room for one more
-  written_room : (j n : ℕ) → j < n → length (written j) + length (encode (op_of s (entry (get_or is j 0) (get_or vs j 0)))) ≤ length (written n)
+  written_room : (j n : ℕ) → j < n → length (written j) + length (encode (op_of s (get_or es j (entry 0 0)))) ≤ length (written n)
   written_room j n l =
       let e : (j + 1) + (n - (j + 1)) ≡ n = omega arith in
       let g : length (written (j + 1)) ≤ length (written n) = rw e at (written_long (j + 1) (n - (j + 1))) in
-      let q : length (written (j + 1)) ≡ length (written j) + length (encode (op_of s (entry (get_or is j 0) (get_or vs j 0)))) =
-      ap length (written_more j) ∙ length-append (written j) (encode (op_of s (entry (get_or is j 0) (get_or vs j 0)))) in
+      let q : length (written (j + 1)) ≡ length (written j) + length (encode (op_of s (get_or es j (entry 0 0)))) =
+      ap length (written_more j) ∙ length-append (written j) (encode (op_of s (get_or es j (entry 0 0)))) in
       omega arith
 
-  within_at : (c n j : ℕ) → Within c (stack is vs n) → j < n → get_or is j 0 < c
+  within_at : (c n j : ℕ) → Within c (top_down es n) → j < n → (get_or es j (entry 0 0)).op < c
   within_at c zero j w l = absurd (not-suc-le-zero l)
   within_at c (suc n) j w l = by (λ x. within_at c n j w.1 x) (eqb j n) refl
     where
-      by : (j < n → get_or is j 0 < c) → (t : Bool) → eqb j n ≡ t → get_or is j 0 < c
+      by : (j < n → (get_or es j (entry 0 0)).op < c) → (t : Bool) → eqb j n ≡ t → (get_or es j (entry 0 0)).op < c
       by less true e = let q : j ≡ n = eqb-true j n e in rw q w.0
       by less false e = less (below j n l (eqb-false j n e))
         where
@@ -314,42 +291,49 @@ module _ (s is vs : List ℕ) where
 
 -- ---- the turns of the loop
 
--- j of the n entries are written, up to byte `at`
-pub record Wrote (s is vs : List ℕ) (n : ℕ) (out₀ out : List ℕ) (j at : ℕ) : Type 0 where
-  pub within : j ≤ n
-  pub long : at ≡ length (file s (stack is vs j))
-  pub put : out ≡ placed out₀ 0 (file s (stack is vs j))
-  pub same : length out ≡ length out₀
+-- the first j entries are written, up to byte `at`
+pub record Wrote (s : List ℕ) (es : List Entry) (out₀ out : List ℕ) (j at : ℕ) : Type 0 where
+  pub long : at ≡ length (file s (top_down es j))
+  pub put : out ≡ placed out₀ 0 (file s (top_down es j))
 
-pub none_wrote : {s is vs out : List ℕ} {n : ℕ} → Wrote s is vs n out out 0 0
+pub none_wrote : {s out : List ℕ} {es : List Entry} → Wrote s es out out 0 0
 unfolding file encode_all
-none_wrote {out = out} = record { within = zero-le; long = refl; put = placed_none out 0; same = refl }
+none_wrote {out = out} = record { long = refl; put = placed_none out 0 }
 
-module _ {s is vs out₀ out : List ℕ} {n j at : ℕ} (w : Wrote s is vs n out₀ out j at) where
-  abbrev next : List ℕ
-  next = encode (op_of s (entry (get_or is j 0) (get_or vs j 0)))
+module _ {s out₀ out : List ℕ} {es : List Entry} {j at : ℕ} (w : Wrote s es out₀ out j at) (n : ℕ) where
+  -- the next of the first n
+  abbrev next : Entry
+  next = get_or (take n es) j (entry 0 0)
 
-  module _ (l : j < n) (f : length (file s (stack is vs n)) ≤ length out₀) where
-    pub wrote_asks : {c : ℕ} → Within c (stack is vs n) → (get_or is j 0 < c) × (at + length next ≤ length out)
-    wrote_asks {c} h = (within_at s is vs c n j h l, omega (arith, written_room s is vs j n l, w.long, w.same, f))
+  module _ (t : j < length (take n es)) (f : length (file s (top_down es n)) ≤ length out₀) where
+    l : j < n
+    l = omega (arith, t, length-take n es)
 
-    pub wrote_more : {r : ℕ} {out' : List ℕ} → (r ≡ at + length next) × (out' ≡ placed out at next) → length out' ≡ length out → Wrote s is vs n out₀ out' (j + 1) r
-    wrote_more q e =
-        let m = written_more s is vs j in
-        let h : length (written s is vs j) ≤ length out₀ = omega (arith, written_room s is vs j n l, f) in
+    next_is : next ≡ get_or es j (entry 0 0)
+    next_is = get_or-take n es j (entry 0 0) l
+
+    pub asks_within : {c : ℕ} → Within c (top_down es n) → next.op < c
+    asks_within {c} h = rw next_is (within_at s es c n j h l)
+
+    pub asks_room : length out ≡ length out₀ → at + length (encode (op_of s next)) ≤ length out
+    asks_room m = rw next_is (omega (arith, written_room s es j n l, w.long, m, f))
+
+    pub wrote_more : {r : ℕ} {out' : List ℕ} → r ≡ at + length (encode (op_of s next)) → out' ≡ placed out at (encode (op_of s next)) → Wrote s es out₀ out' (j + 1) r
+    wrote_more a b =
+        let o = encode (op_of s next) in
+        let m : written s es (j + 1) ≡ written s es j ++ o = written_more s es j ∙ ap (λ (e : Entry). written s es j ++ encode (op_of s e)) (sym next_is) in
+        let h : length (written s es j) ≤ length out₀ = omega (arith, written_room s es j n l, f) in
         record {
-          within = omega arith;
-          long = q.0 ∙ ap (λ (a : ℕ). a + length next) w.long ∙ sym (length-append (written s is vs j) next) ∙ ap length (sym m);
+          long = a ∙ ap (λ (a : ℕ). a + length o) w.long ∙ sym (length-append (written s es j) o) ∙ ap length (sym m);
           put =
-              q.1
-              ∙ ap (λ (o : List ℕ). placed o at next) w.put
-              ∙ placed_then out₀ 0 (written s is vs j) next at (zero-add (length (written s is vs j)) ∙ sym w.long) (rw w.long h)
+              b
+              ∙ ap (λ (o' : List ℕ). placed o' at o) w.put
+              ∙ placed_then out₀ 0 (written s es j) o at (zero-add (length (written s es j)) ∙ sym w.long) (rw w.long h)
               ∙ ap (placed out₀ 0) (sym m);
-          same = e ∙ w.same;
         }
 
-  pub wrote_all : n ≤ j → (at ≡ length (file s (stack is vs n))) × (out ≡ fill (file s (stack is vs n)) out₀)
-  unfolding fill placed
-  wrote_all l =
-      let q : j ≡ n = le_antisymm w.within l in
-      (w.long ∙ ap (λ (k : ℕ). length (written s is vs k)) q, w.put ∙ rw zero-add (ap (λ (k : ℕ). written s is vs k ++ drop (length (written s is vs k)) out₀) q))
+pub wrote_all : {s out₀ out : List ℕ} {es : List Entry} {n j at : ℕ} → Wrote s es out₀ out j at → j ≡ n
+    → (at ≡ length (file s (top_down es n))) × (out ≡ fill (file s (top_down es n)) out₀)
+unfolding fill placed
+wrote_all {s = s} {out₀ = out₀} {es = es} w e =
+    (w.long ∙ ap (λ (k : ℕ). length (written s es k)) e, w.put ∙ rw zero-add (ap (λ (k : ℕ). written s es k ++ drop (length (written s es k)) out₀) e))

@@ -2,12 +2,14 @@
 use mathlib.Core.Path.{◌≡◌, refl, ap, sym, ◌∙◌}
 use Prim.Native.Nat.{ℕ, ◌+◌, ◌*◌, ◌≤◌}
 use native.Mathlib.Omega.{arith}
-use mathlib.Core.Bool.{true, cond, ◌&&◌}
+use mathlib.Core.Bool.{true, ◌&&◌}
 use mathlib.Core.List.{List, [], ◌∷◌}
 use lib.Dec.{eqb}
 use lib.ListN.{length, length-append}
 use borrow.Author.Tests.{eqb-true}
 use Rattle.kind_table.specs.Kinds.{shape, kind_at, index_of}
+use Rattle.kind_table.specs.declared.shape.Shape.{Shape}
+use Rattle.kind_table.specs.declared.shape.Shape.TheVariants.{Empty, Text, Values, LaneCount, Amount, AmountAndLanes, Mode, LeftOut, Binding}
 use Rattle.ops.specs.Decode.{op_count}
 use Rattle.ops.specs.Syntax.{Op, Plain, kind_of, arg_of, values_of}
 use Rattle.ops.specs.Syntax.Plain.{comment, store, move, swap, locate, offset, deref, refer, cell, lane, get, put, peek, poke, ffi_call, alloc, free}
@@ -18,20 +20,22 @@ use Rattle.file_laws.proofs.Encoded.{known, length_bytes}
 use Rattle.file_laws.proofs.Rows as rows
 use Rattle.file_laws.proofs.Written.{length_encode}
 use Rattle.joining.specs.Join.{decided, tested, join}
-use Rattle.joining.proofs.Pushes.{both_true, weigh, join_light}
+use Rattle.basics.proofs.Tests.{and_left, and_right}
+use Rattle.joining.proofs.Pushes.{weigh, join_light}
 
 -- ---- the bytes of an op, by its row
 
 -- the length of a payload of this shape that counts n
-abbrev span : ℕ → ℕ → ℕ
-span f n =
-    cond (eqb f 1) n
-    (cond (eqb f 2) (8 * n)
-    (cond (eqb f 3) 4
-    (cond (eqb f 4) 8
-    (cond (eqb f 5) 12
-    (cond (eqb f 6) 2
-    (cond (eqb f 8) 2 0))))))
+abbrev span : Shape → ℕ → ℕ
+span Empty n = 0
+span Text n = n
+span Values n = 8 * n
+span LaneCount n = 4
+span Amount n = 8
+span AmountAndLanes n = 12
+span Mode n = 2
+span LeftOut n = 0
+span Binding n = 2
 
 plain_span : (q : Plain) → length (payload_of (plain q)) ≡ span (shape (rows.rule (plain q))) (op_count (plain q))
 unfolding le64 le32 le16
@@ -64,7 +68,7 @@ size_at : (o : Op) (k : ℕ) → kind_of o ≡ k → length (encode o) ≡ 6 + s
 size_at o k e =
     length_encode o
     ∙ ap (λ (j : ℕ). 6 + j) (payload_span o)
-    ∙ ap (λ (f : ℕ). 6 + span f (op_count o)) (ap shape (sym (known o).2) ∙ ap (λ (j : ℕ). shape (kind_at (index_of j))) e)
+    ∙ ap (λ (f : Shape). 6 + span f (op_count o)) (ap shape (sym (known o).2) ∙ ap (λ (j : ℕ). shape (kind_at (index_of j))) e)
 
 move_size : (o : Op) → kind_of o ≡ 11 → length (encode o) ≡ 14
 unfolding kind_at index_of
@@ -86,11 +90,12 @@ size o = length (encode o)
 set_light : (last new : Op) → decided last new ≡ true → size (tested last) ≤ size last + size new
 unfolding encode value_bytes le64 le32 le16
 set_light last new e =
-    let a = both_true (eqb (kind_of new) 37 && eqb (kind_of last) 1 && eqb (arg_of new) 1) (eqb (length (values_of last)) 1) e in
-    let b = both_true (eqb (kind_of new) 37 && eqb (kind_of last) 1) (eqb (arg_of new) 1) a.0 in
-    let c = both_true (eqb (kind_of new) 37) (eqb (kind_of last) 1) b.0 in
-    let s : length (encode last) ≡ 6 + 8 * op_count last = set_size last (eqb-true (kind_of last) 1 c.1) in
-    let l : length (values_of last) ≡ 1 = eqb-true (length (values_of last)) 1 a.1 in
+    let a = and_left (eqb (kind_of new) 37 && eqb (kind_of last) 1 && eqb (arg_of new) 1) (eqb (length (values_of last)) 1) e in
+    let b = and_left (eqb (kind_of new) 37 && eqb (kind_of last) 1) (eqb (arg_of new) 1) a in
+    let c = and_right (eqb (kind_of new) 37) (eqb (kind_of last) 1) b in
+    let l = and_right (eqb (kind_of new) 37 && eqb (kind_of last) 1 && eqb (arg_of new) 1) (eqb (length (values_of last)) 1) e in
+    let s : length (encode last) ≡ 6 + 8 * op_count last = set_size last (eqb-true (kind_of last) 1 c) in
+    let n : length (values_of last) ≡ 1 = eqb-true (length (values_of last)) 1 l in
     let f = values_few last in
     let t : length (encode (tested last)) ≡ 14 = length_encode (tested last) in
     omega arith

@@ -22,9 +22,11 @@ use Rattle.file_laws.proofs.Items.{IsItem, item_at_lem}
 use Rattle.file_laws.proofs.Meaning.{means}
 use Rattle.joining.specs.Join.{Rule, total, tested, rule, moved, react, op, pushes, join}
 use Rattle.joining.specs.Join.Rule.{push, skip, pop, again, under, sum}
-use Rattle.joining.specs.declared.stack.Met.{Met}
-use Rattle.joining.specs.declared.stack.Met.TheVariants.{Push, Skip, Pop, Again, Test, Under, Sum}
-use Rattle.joining.specs.Stack.{Entry, entry, valued, value_of, cells, tests, meet, met, moved_on, react_on, push_on, item_at, Holds, entry_at, after, op_within, op_of, Within}
+use Rattle.joining.specs.declared.met.Met.{Met}
+use Rattle.joining.specs.declared.met.Met.TheVariants.{Push, Skip, Pop, Again, Test, Under, Sum}
+use Rattle.joining.specs.Source.{item_at, Holds}
+use Rattle.joining.specs.Stack.{entry, valued, value_of, cells, tests, meet, met, moved_on, react_on, push_on, entry_at, after, op_within, op_of, Within}
+use Rattle.joining.specs.declared.entry.Entry.{Entry}
 use Rattle.joining.proofs.Settled.{pushes_snoc}
 
 -- ---- what the code knows of an op

@@ -1,3 +1,4 @@
+pub mod Source
 pub mod Join
 pub mod Stack
 pub mod Joined

@@ -1,25 +1,25 @@
--- The stack that the code joins on: its entries, the push of one, and the file's ops that the arrays hold. Assumes nothing.
-use Rattle.std.specs.Prelude.{ℕ, zero, suc, ◌<◌, ◌≡◌, Bool, true, false, cond, List, [], ◌∷◌, map, reverse, eqb, length, get_or}
+-- The stack that the code joins on: its entries, the push of one, and the file's ops that they stand for. Assumes nothing.
+use Rattle.std.specs.Prelude.{ℕ, zero, suc, ◌<◌, Bool, true, false, cond, List, [], ◌∷◌, map, reverse, eqb, get_or}
 use Rattle.kind_table.specs.Rows as row
 use Rattle.lanes.specs.Int.{int_add, int_gez}
 use Rattle.byte_fields.specs.Bytes.{u64_at}
-use Rattle.ops.specs.Patch.{Item, item, patch_of}
+use Rattle.ops.specs.Patch.{Item}
 use Rattle.ops.specs.Decode.{op_at}
 use Rattle.ops.specs.Syntax.{Op}
 use Rattle.ops.specs.Write.{encode_all}
 use Rattle.ops.specs.Syntax.Plain.{move}
 use Rattle.ops.specs.Syntax.Sort.{ints}
 use Rattle.ops.specs.Syntax.Op.{set, plain}
-use Rattle.joining.specs.declared.stack.Met.{Met}
-use Rattle.joining.specs.declared.stack.Met.TheVariants.{Push, Skip, Pop, Again, Test, Under, Sum}
+use Rattle.joining.specs.Source.{item_at}
+use Rattle.joining.specs.declared.entry.Entry.{Entry}
+use Rattle.joining.specs.declared.entry.Seen.{Seen}
+use Rattle.joining.specs.declared.met.Met.{Met}
+use Rattle.joining.specs.declared.met.Met.TheVariants.{Push, Skip, Pop, Again, Test, Under, Sum}
+use Rattle.joining.specs.declared.stack.Stack.{Stack}
 
 -- ---- entries
 
--- an op of the file, by its place among them, and the value that it has by now if it is a Move or a Set of one value
-pub record Entry : Type 0 where
-  pub op : ℕ
-  pub value : ℕ
-
+-- op i, with the value v by now
 abbrev pub entry : ℕ → ℕ → Entry
 entry i v = record { op = i; value = v }
 
@@ -56,6 +56,9 @@ meet yk yn yv xk xn xv =
 abbrev pub met : List ℕ → List ℕ → Entry → Entry → Met
 met ks ns y x = meet (get_or ks y.op 0) (get_or ns y.op 0) y.value (get_or ks x.op 0) (get_or ns x.op 0) x.value
 
+abbrev pub seen_of : List ℕ → List ℕ → Entry → Seen
+seen_of ks ns e = record { row = get_or ks e.op 0; count = get_or ns e.op 0; value = e.value }
+
 -- a move is pushed
 abbrev pub moved_on : List ℕ → List Entry → Entry → List Entry
 moved_on ks [] m = m ∷ []
@@ -77,22 +80,15 @@ abbrev pub push_on : List ℕ → List ℕ → List Entry → Entry → List Ent
 push_on ks ns [] x = x ∷ []
 push_on ks ns (y ∷ st) x = react_on ks (met ks ns y x) y st x (push_on ks ns st)
 
--- the entries that two slices hold, the last one first
-abbrev pub stack : List ℕ → List ℕ → ℕ → List Entry
-stack is vs zero = []
-stack is vs (suc n) = entry (get_or is n 0) (get_or vs n 0) ∷ stack is vs n
+-- the first n entries, the last one first
+abbrev pub top_down : List Entry → ℕ → List Entry
+top_down es zero = []
+top_down es (suc n) = get_or es n (entry 0 0) ∷ top_down es n
+
+abbrev pub stack : Stack → List Entry
+stack st = top_down st.entries st.n
 
 -- ---- the file's ops
-
-abbrev pub item_at : List ℕ → ℕ → Item
-item_at s i = get_or (patch_of s).items i (item 0 0 0)
-
--- the arrays hold the rows, counts and places of the n ops of s
-pub record Holds (s ks ns ps : List ℕ) (n : ℕ) : Type 0 where
-  pub many : n ≡ length (patch_of s).items
-  pub rows : (i : ℕ) → i < n → get_or ks i 0 ≡ (item_at s i).row
-  pub counts : (i : ℕ) → i < n → get_or ns i 0 ≡ (item_at s i).count
-  pub payloads : (i : ℕ) → i < n → get_or ps i 0 ≡ (item_at s i).payload
 
 -- the entry of the op i of s
 abbrev pub entry_at : List ℕ → ℕ → Entry

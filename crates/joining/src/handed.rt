@@ -3,13 +3,13 @@ ghost use Rattle.std.specs.Prelude.{◌≡◌};
 ghost use Rattle.joining.specs.Handed.{handed, join_patch_of};
 
 use crate::join::join;
-use answers::join::{Joined, length_of};
+use answers::join::{JoinError, Joined, length_of};
 use partners::patch::{Patch, read};
 
 // What joining answers, and the patch as it is read of the written bytes; of no bytes where it was refused.
 #[derive(Drop)]
 pub struct JoinedPatch {
-    pub answer: Joined,
+    pub answer: Result<Joined, JoinError>,
     pub patch: Patch,
 }
 

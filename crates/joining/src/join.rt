@@ -1,73 +1,53 @@
 // A whole file, joined.
-ghost use Rattle.std.specs.Prelude.{◌≡◌, ℕ, ◌≤◌, length};
-ghost use Rattle.basics.specs.Limits.{most_ops};
-ghost use Rattle.joining.specs.Stack.{Holds, stack, after};
+ghost use Rattle.std.specs.Prelude.{◌≡◌, ◌≤◌};
+ghost use Rattle.joining.specs.Stack.{stack, after};
 ghost use Rattle.joining.specs.Joined.{outcome, join_of};
 
-use crate::stack::{count_of, push, row_of};
-use crate::write::{payload_of, value_of, write_all};
-use answers::join::Joined;
+use crate::entry::Entry;
+use crate::source::Source;
+use crate::stack::Stack;
+use crate::write::write_all;
+use answers::join::{JoinError, Joined};
 use patch_reader::reader::{Read, load};
 
-// Each of the file's ops pushed in turn; how many entries are left.
-fn push_all(
-    bytes: &[u8],
-    rows: &[u8; Read::OPS],
-    counts: &[u16; Read::OPS],
-    payloads: &[u32],
-    count: usize,
-    ops: &mut [u16; Read::OPS],
-    values: &mut [u64; Read::OPS],
-) -> usize
-    requires { Holds bytes.now rows.now counts.now payloads.now count × ((count ≤ most_ops) × ((length rows.now ≡ most_ops) × ((length counts.now ≡ most_ops) × ((length ops.old ≡ most_ops) × (length values.old ≡ most_ops))))) }
-    ensures upper_bound { (result ≤ count) × (stack ops.new values.new result ≡ after bytes.now rows.now counts.now count) }
-    ensures ops_len { (length ops.new ≡ most_ops) × (length values.new ≡ most_ops) }
+// Each of the file's ops pushed in turn, on no entry.
+fn push_all(source: &Source, left: &mut Stack)
+    ensures few { left.new.n ≤ source.now.ops }
+    ensures value { stack left.new ≡ after source.now.bytes.now source.now.read.now.rows source.now.read.now.counts source.now.ops }
 {
-    let mut n = 0;
-    let mut i = 0;
-    while i < count {
-        let op = i as u16;
-        let k = row_of(rows, op);
-        let c = count_of(counts, op);
-        let p = payload_of(payloads, op);
-        let v = value_of(bytes, k, c, p);
-        n = push(rows, counts, ops, values, n, op, v);
-        i += 1;
+    left.n = 0;
+    for i in 0..source.ops {
+        left.push(source.read, source.entry(i as u16));
     }
-    n
 }
 
 // Joins a patch file into the lent bytes.
-pub fn join(bytes: &[u8], out: &mut [u8]) -> Joined
+pub fn join(bytes: &[u8], out: &mut [u8]) -> Result<Joined, JoinError>
     ensures { outcome result out.new ≡ join_of bytes.now out.old }
 {
-    let mut rows = [0u8; Read::OPS];
-    let mut counts = [0u16; Read::OPS];
-    let mut needs = [0u16; Read::OPS];
-    let mut payloads = [0u32; Read::OPS];
-    let read = load(bytes, &mut rows, &mut counts, &mut needs, &mut payloads);
-    let number = read.number;
-    if number != 0 {
-        let place = read.place;
-        return Joined::BadFile(number, place);
-    }
+    let mut read = Read::blank();
+    let ops = match load(bytes, &mut read) {
+        Ok(ops) => ops,
+        Err(unread) => {
+            return Err(JoinError::BadFile {
+                number: unread.number,
+                place: unread.place,
+            });
+        }
+    };
     if out.len() < bytes.len() {
-        return Joined::NoRoom;
+        return Err(JoinError::NoRoom);
     }
-    let count = read.ops;
-    let mut ops = [0u16; Read::OPS];
-    let mut values = [0u64; Read::OPS];
-    let n = push_all(
+    let source = Source {
         bytes,
-        &rows,
-        &counts,
-        &payloads,
-        count,
-        &mut ops,
-        &mut values,
-    );
-    let len = write_all(
-        bytes, &rows, &counts, &payloads, count, &ops, &values, n, out,
-    );
-    Joined::Written(n, len)
+        read: &read,
+        ops,
+    };
+    let mut left = Stack {
+        entries: [Entry { op: 0, value: 0 }; Read::OPS],
+        n: 0,
+    };
+    push_all(&source, &mut left);
+    let bytes = write_all(&source, &left, out);
+    Ok(Joined { ops: left.n, bytes })
 }

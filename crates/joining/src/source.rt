@@ -1,0 +1,44 @@
+// A patch file that was read.
+ghost use Rattle.std.specs.Prelude.{◌≡◌, ◌<◌, ◌≤◌, get_or};
+ghost use Rattle.basics.specs.Limits.{most_ops};
+ghost use Rattle.joining.specs.Source.{Holds};
+
+use crate::entry::Entry;
+use byte_fields::read::u64_at;
+use patch_reader::reader::Read;
+
+// Its bytes, and the columns of its ops.
+#[derive(Clone, Copy)]
+pub struct Source<'a> {
+    pub bytes: &'a [u8],
+    pub read: &'a Read,
+    pub ops: usize,
+    ghost few: { ops ≤ most_ops },
+    ghost holds: { Holds bytes.now read.now.rows read.now.counts read.now.payloads ops },
+}
+
+impl Source<'_> {
+    ghost use Rattle.joining.specs.Stack.{entry_at};
+
+    // The first byte of op i's payload; 0 beyond the last.
+    pub fn payload(&self, i: u16) -> usize
+        ensures { result ≡ get_or self.now.read.now.payloads i 0 }
+    {
+        self.read.payloads.get(usize::from(i)).copied().unwrap_or(0) as usize
+    }
+
+    // Op i with the value that it has in the file; 0 where it has none.
+    pub fn entry(&self, i: u16) -> Entry
+        requires { i < self.now.ops }
+        ensures { result ≡ entry_at self.now.bytes.now i }
+    {
+        let none = Entry { op: i, value: 0 };
+        if !none.seen(self.read).has_value() {
+            return none;
+        }
+        Entry {
+            op: i,
+            value: u64_at(self.bytes, self.payload(i)),
+        }
+    }
+}
