@@ -4,9 +4,12 @@ use native.Mathlib.Nat.{not-suc-le-zero, le_of_suc-le-suc, zero-add}
 use native.Mathlib.Omega.{arith}
 use borrow.Author.Tests.{lt-ltb, le-ltb}
 use mathlib.Core.Path.{◌≡◌, refl, ap, ap₂, sym, ◌∙◌}
-use mathlib.Core.Bool.{true, false}
-use mathlib.Core.List.{List, [], ◌∷◌, ◌++◌, map}
+use mathlib.Core.Bool.{Bool, true, false, cond}
+use Rattle.std.specs.Prelude.{Err, ◌==◌, ◌⊎◌}
+use Rattle.std.proofs.Common.{inl, inr}
+use mathlib.Core.List.{List, [], ◌∷◌, map}
 use lib.ListN.{length, get_or, take, length-map, length-append, get_or-map}
+use Rattle.std.proofs.lemmas.List.Sums.{sum_by-cons}
 use Rattle.ops.specs.Syntax.{Op}
 use Rattle.ops.specs.Syntax.Op.{control, set, load, plain}
 use Rattle.ops.specs.Syntax.Plain.{free}
@@ -22,17 +25,19 @@ use Rattle.file_laws.proofs.Fitting.{below_all}
 use Rattle.file_laws.proofs.Loaded as loaded
 use Rattle.file_laws.proofs.Meaning.{means, ops_are, refused_are}
 use Rattle.patch_reader.proofs.Whole.{tells}
-use Rattle.flattening.specs.Flatten.{Note, note, notes, Numbered, number, body, bodies, gathered, others, laid, flatten, Flat}
+use Rattle.flattening.specs.Flatten.{Note, note, notes, Numbered, number, body, gathered, laid, flatten, Flat}
 use Rattle.flattening.specs.Flatten.Note.{stays}
 use Rattle.flattening.specs.Flatten.Numbered.{stray, numbered}
 use Rattle.flattening.specs.Flatten.Flat.{loose, flat}
-use Rattle.flattening.specs.Scope.{row_note, row_notes, row_marks, told}
-use Rattle.flattening.specs.declared.numbering.Numbering.{Numbering}
-use Rattle.flattening.specs.declared.numbering.Numbering.TheVariants.{NoOpenEnd, Done}
-use Rattle.flattening.specs.Flattened.{outcome, good_ops, ops_in, number_in, first_in, count_in, too_short, of_flat, of_patch, flatten_of}
-use Rattle.answers.specs.declared.flatten.Flattened.TheVariants as flattened
+use Rattle.flattening.specs.declared.body.Body.{Body}
+use Rattle.flattening.specs.Scope.{row_note, row_notes, row_marks, listed}
+use Rattle.flattening.specs.Flattened.{outcome, good_ops, ops_in, number_in, first_in, count_in, functions, ops_by, entries_by, CanWrite, too_short, of_flat, of_patch, flatten_of}
+use Rattle.answers.specs.Flatten.{Flattening}
+use Rattle.answers.specs.Flatten as answers
+use Rattle.answers.specs.declared.flatten.FlattenError.TheVariants as error
 use Rattle.flattening.proofs.Flattened.{same_ops, same_bytes}
-use Rattle.flattening.proofs.FewBodies.{few_bodies, length_bodies}
+use Rattle.flattening.proofs.FewBodies.{length_bodies}
+use Rattle.flattening.proofs.InOrder.{each_has_body, as_many_bodies}
 use Rattle.flattening.proofs.Copying.{is_patch, file_bytes}
 
 -- ---- rows and ops
@@ -72,7 +77,8 @@ module _ (s : List ℕ) where
       let t = tells s h.first i.row i.payload h.len i.count h.next h.is in
       row_note_lem i.row t.small ∙ sym (note_with s i.payload i.count (row_at i.row))
 
-  mark_item : (i : Item) → IsItem s i → mark_of i.row ≡ mark_in (op_at s i)
+  mark_item : (i : Item) → IsItem s i → cond (i.row == 2) 1 0 ≡ mark_in (op_at s i)
+  unfolding mark_of
   mark_item i h = ap mark_of (sym (means s i h).row) ∙ (known (op_at s i)).3
 
   notes_are : (is : List Item) → Every (IsItem s) is → row_notes (map row_in is) ≡ notes (map (op_at s) is)
@@ -81,12 +87,27 @@ module _ (s : List ℕ) where
 
   marks_are : (is : List Item) → Every (IsItem s) is → row_marks (map row_in is) ≡ marks_in (map (op_at s) is)
   marks_are [] e = refl
-  marks_are (i ∷ is) e = ap₂ (λ (x y : ℕ). x + y) (mark_item i e.0) (marks_are is e.1)
+  marks_are (i ∷ is) e = sum_by-cons (λ k. cond (k == 2) 1 0) i.row (map row_in is) ∙ ap₂ (λ (x y : ℕ). x + y) (mark_item i e.0) (marks_are is e.1)
+
+-- ---- room that is too short, as it is found
+
+abbrev pub TooShort : (s o ns fs ks : List ℕ) → ℕ → Type 0
+TooShort s o ns fs ks m =
+    (length o < length s)
+    ⊎ ((length s ≤ length o) × (length ns < m))
+    ⊎ ((length s ≤ length o) × (m ≤ length ns) × (length fs < m))
+    ⊎ ((length s ≤ length o) × (m ≤ length ns) × (m ≤ length fs) × (length ks < m))
+
+is_short : (s o ns fs ks : List ℕ) (m : ℕ) → TooShort s o ns fs ks m → too_short s o ns fs ks m ≡ true
+is_short s o ns fs ks m (inl h) = rw (lt-ltb (length o) (length s) h) refl
+is_short s o ns fs ks m (inr (inl h)) = rw (le-ltb (length o) (length s) h.0, lt-ltb (length ns) m h.1) refl
+is_short s o ns fs ks m (inr (inr (inl h))) = rw (le-ltb (length o) (length s) h.0, le-ltb (length ns) m h.1, lt-ltb (length fs) m h.2) refl
+is_short s o ns fs ks m (inr (inr (inr h))) = rw (le-ltb (length o) (length s) h.0, le-ltb (length ns) m h.1, le-ltb (length fs) m h.2, lt-ltb (length ks) m h.3) refl
 
 -- ---- a bad file
 
 module _ (s : List ℕ) (r : Read) (e : r ≡ read_of (patch_of s)) where
-  pub bad_file : (o ns fs ks : List ℕ) → (r.number ≡ 0 → ⊥) → outcome (flattened.BadFile r.number r.place) o ns fs ks ≡ flatten_of s o ns fs ks
+  pub bad_file : (o ns fs ks : List ℕ) → (r.number ≡ 0 → ⊥) → outcome (Err (error.BadFile r.number r.place)) o ns fs ks ≡ flatten_of s o ns fs ks
   unfolding flatten_of
   bad_file o ns fs ks z = rw (refused_are s (loaded.bad_file s r e z), loaded.number_is s r e, loaded.bad_place s r e z)
 
@@ -122,90 +143,80 @@ module _ (s : List ℕ) (r : Read) (e : r ≡ read_of (patch_of s)) (z : r.numbe
     flat_of x q = ap (λ (ns : List Note). laid (ops_in s) (number 0 0 0 [] [] ns)) (sym notes_here) ∙ ap (laid (ops_in s)) (sym q)
 
     -- "An End with no open bracket is 10"
-    pub stray_file : (o ns fs ks : List ℕ) (x : Numbering) (p : ℕ) (cs seen : List ℕ) → x ≡ NoOpenEnd p → told x cs seen ≡ number 0 0 0 [] [] (row_notes (take r.ops k))
-        → outcome (flattened.NoOpenEnd p) o ns fs ks ≡ flatten_of s o ns fs ks
+    pub stray_file : (o ns fs ks : List ℕ) (p : ℕ) (a : Flattening) → stray p ≡ number 0 0 0 [] [] (row_notes (take r.ops k)) → a ≡ Err (error.NoOpenEnd p)
+        → outcome a o ns fs ks ≡ flatten_of s o ns fs ks
     unfolding flatten
-    stray_file o ns fs ks x p cs seen ex t =
-        by_flat o ns fs ks (loose p) (flat_of (stray p) (ap (λ (y : Numbering). told y cs seen) (sym ex) ∙ t))
+    stray_file o ns fs ks p a t ea = rw ea (by_flat o ns fs ks (loose p) (flat_of (stray p) t))
 
     -- every op has its body
-    module _ (x : Numbering) (owner seen : List ℕ) (done : x ≡ Done)
-        (t : told x (take (length (take r.ops k)) owner) seen ≡ number 0 0 0 [] [] (row_notes (take r.ops k))) where
+    module _ (owner : List ℕ) (flags : List Bool) (t : numbered (take (length (take r.ops k)) owner) (listed 0 flags) ≡ number 0 0 0 [] [] (row_notes (take r.ops k))) where
       abbrev cs : List ℕ
       cs = take r.ops owner
 
+      abbrev seen : List ℕ
+      seen = listed 0 flags
+
       told_is : numbered cs seen ≡ number 0 0 0 [] [] (row_notes (take r.ops k))
-      told_is =
-          ap (λ (j : ℕ). numbered (take j owner) seen) (loaded.part_length s r e row_in k k₀ ek)
-          ∙ ap (λ (y : Numbering). told y (take (length (take r.ops k)) owner) seen) (sym done)
-          ∙ t
+      told_is = ap (λ (j : ℕ). numbered (take j owner) seen) (loaded.part_length s r e row_in k k₀ ek) ∙ t
 
-      flat_ops : List Op
-      flat_ops = gathered (others seen) cs (ops_in s) ++ body 0 cs (ops_in s)
+      abbrev gs : List Op
+      gs = ops_by flags cs (ops_in s)
 
-      flat_is : flatten (ops_in s) ≡ flat flat_ops (bodies 0 (others seen) cs (ops_in s))
-      unfolding flat_ops flatten
+      abbrev es : List Body
+      es = entries_by flags cs (ops_in s)
+
+      flat_is : flatten (ops_in s) ≡ flat gs es
+      unfolding flatten
       flat_is = flat_of (numbered cs seen) told_is
 
-      answer_is : (o ns fs ks : List ℕ) → of_flat s o ns fs ks (marks_in (ops_in s)) (flat flat_ops (bodies 0 (others seen) cs (ops_in s))) ≡ flatten_of s o ns fs ks
+      answer_is : (o ns fs ks : List ℕ) → of_flat s o ns fs ks (marks_in (ops_in s)) (flat gs es) ≡ flatten_of s o ns fs ks
       answer_is o ns fs ks = by_flat o ns fs ks _ flat_is
 
-      entries_few : length (others seen) ≤ row_marks (take r.ops k)
-      entries_few = omega (arith, few_bodies (ops_in s) cs seen (ap (number 0 0 0 [] []) (sym notes_here) ∙ sym told_is), marks_here)
+      numbering : number 0 0 0 [] [] (notes (ops_in s)) ≡ numbered cs seen
+      numbering = ap (number 0 0 0 [] []) (sym notes_here) ∙ sym told_is
 
-      -- ---- no room
+      entries_few : length (functions flags) ≤ row_marks (take r.ops k)
+      entries_few = omega (arith, as_many_bodies (ops_in s) cs seen numbering, marks_here)
 
-      module _ (o ns fs ks : List ℕ) where
-        no_room : too_short s o ns fs ks (marks_in (ops_in s)) ≡ true → outcome flattened.NoRoom o ns fs ks ≡ flatten_of s o ns fs ks
-        no_room t = sym (rw t refl) ∙ answer_is o ns fs ks
+      module _ (o ns fs ks : List ℕ) (m : ℕ) (em : m ≡ row_marks (take r.ops k)) where
+        m_is : m ≡ marks_in (ops_in s)
+        m_is = em ∙ marks_here
 
-        pub short_bytes : length o < length s → outcome flattened.NoRoom o ns fs ks ≡ flatten_of s o ns fs ks
-        short_bytes h = no_room (rw (lt-ltb (length o) (length s) h) refl)
+        -- no room
+        pub short : TooShort s o ns fs ks m → outcome (Err error.NoRoom) o ns fs ks ≡ flatten_of s o ns fs ks
+        short h = sym (rw (← m_is, is_short s o ns fs ks m h) refl) ∙ answer_is o ns fs ks
 
-        module _ (ho : length s ≤ length o) (m : ℕ) (em : m ≡ row_marks (take r.ops k)) where
-          m_is : m ≡ marks_in (ops_in s)
-          m_is = em ∙ marks_here
+        -- room
+        module _ (ho : length s ≤ length o) (hn : m ≤ length ns) (hf : m ≤ length fs) (hk : m ≤ length ks) (w : (i : ℕ) → get_or s i 0 < 256) where
+          bytes_same : length (encode_all gs) ≡ length s
+          bytes_same = same_bytes (ops_in s) gs _ flat_is ∙ ap length (file_bytes s good (below_all s w))
 
-          pub short_numbers : length ns < m → outcome flattened.NoRoom o ns fs ks ≡ flatten_of s o ns fs ks
-          short_numbers h = no_room (rw (sym m_is, le-ltb (length o) (length s) ho, lt-ltb (length ns) m h) refl)
+          -- what `write_bodies` asks
+          pub can_write : CanWrite s cs flags o ns fs ks
+          can_write = record {
+            good = good;
+            owned = each_has_body (ops_in s) cs seen numbering;
+            few =
+                omega (
+                  arith,
+                  same_ops (ops_in s) gs _ flat_is,
+                  length-append (gathered (functions flags) cs (ops_in s)) (body 0 cs (ops_in s)),
+                  op_count,
+                  loaded.few s r e,
+                );
+            bytes = omega (arith, bytes_same, ho);
+            numbers = omega (arith, entries_few, em, hn);
+            firsts = omega (arith, entries_few, em, hf);
+            counts = omega (arith, entries_few, em, hk);
+          }
 
-          pub short_firsts : m ≤ length ns → length fs < m → outcome flattened.NoRoom o ns fs ks ≡ flatten_of s o ns fs ks
-          short_firsts hn h = no_room (rw (sym m_is, le-ltb (length o) (length s) ho, le-ltb (length ns) m hn, lt-ltb (length fs) m h) refl)
-
-          pub short_counts : m ≤ length ns → m ≤ length fs → length ks < m → outcome flattened.NoRoom o ns fs ks ≡ flatten_of s o ns fs ks
-          short_counts hn hf h = no_room (rw (sym m_is, le-ltb (length o) (length s) ho, le-ltb (length ns) m hn, le-ltb (length fs) m hf, lt-ltb (length ks) m h) refl)
-
-          -- ---- room
-
-          module _ (hn : m ≤ length ns) (hf : m ≤ length fs) (hk : m ≤ length ks) (w : (i : ℕ) → get_or s i 0 < 256) where
-            bytes_same : length (encode_all flat_ops) ≡ length s
-            bytes_same = same_bytes (ops_in s) flat_ops _ flat_is ∙ ap length (file_bytes s good (below_all s w))
-
-            -- what `write_bodies` asks
-            pub fits : ((length (gathered (others seen) cs (ops_in s)) ≤ 4096) × (length (encode_all (gathered (others seen) cs (ops_in s) ++ body 0 cs (ops_in s))) ≤ length o))
-                × ((length (others seen) ≤ length ns) × ((length (others seen) ≤ length fs) × (length (others seen) ≤ length ks)))
-            unfolding flat_ops
-            fits =
-                let few : length (gathered (others seen) cs (ops_in s)) ≤ 4096 =
-                omega (arith, same_ops (ops_in s) flat_ops _ flat_is, length-append (gathered (others seen) cs (ops_in s)) (body 0 cs (ops_in s)), op_count, loaded.few s r e) in
-                ((few, omega (arith, bytes_same, ho)), (omega (arith, entries_few, em, hn), (omega (arith, entries_few, em, hf), omega (arith, entries_few, em, hk))))
-
-            pub written_file : (n : ℕ) (o' ns' fs' ks' : List ℕ) → n ≡ length (others seen)
-                → o' ≡ fill (encode_all (gathered (others seen) cs (ops_in s) ++ body 0 cs (ops_in s))) o
-                → ns' ≡ fill (map number_in (bodies 0 (others seen) cs (ops_in s))) ns
-                → fs' ≡ fill (map first_in (bodies 0 (others seen) cs (ops_in s))) fs
-                → ks' ≡ fill (map count_in (bodies 0 (others seen) cs (ops_in s))) ks
-                → outcome (flattened.Written r.ops (length s) n) o' ns' fs' ks' ≡ flatten_of s o ns fs ks
-            unfolding flat_ops
-            written_file n o' ns' fs' ks' en eo e1 e2 e3 =
-                let gs = gathered (others seen) cs (ops_in s) ++ body 0 cs (ops_in s) in
-                let bs = bodies 0 (others seen) cs (ops_in s) in
-                let a : r.ops ≡ length gs = sym op_count ∙ sym (same_ops (ops_in s) flat_ops _ flat_is) in
-                let b : length s ≡ length (encode_all gs) = sym bytes_same in
-                let c : n ≡ length bs = en ∙ sym (length_bodies 0 (others seen) cs (ops_in s)) in
-                let t : too_short s o ns fs ks (marks_in (ops_in s)) ≡ false =
-                rw (sym m_is, le-ltb (length o) (length s) ho, le-ltb (length ns) m hn, le-ltb (length fs) m hf, le-ltb (length ks) m hk) refl in
-                let x : outcome (flattened.Written r.ops (length s) n) o' ns' fs' ks'
-                ≡ outcome (flattened.Written (length gs) (length (encode_all gs)) (length bs)) (fill (encode_all gs) o) (fill (map number_in bs) ns) (fill (map first_in bs) fs) (fill (map count_in bs) ks) =
-                cc in
-                x ∙ sym (rw t refl) ∙ answer_is o ns fs ks
+          pub written_file : (n : ℕ) (o' ns' fs' ks' : List ℕ) → n ≡ length (functions flags) → o' ≡ fill (encode_all gs) o
+              → ns' ≡ fill (map number_in es) ns → fs' ≡ fill (map first_in es) fs → ks' ≡ fill (map count_in es) ks
+              → outcome (answers.written r.ops (length s) n) o' ns' fs' ks' ≡ flatten_of s o ns fs ks
+          written_file n o' ns' fs' ks' en eo e1 e2 e3 =
+              let a : r.ops ≡ length gs = sym op_count ∙ sym (same_ops (ops_in s) gs _ flat_is) in
+              let b : length s ≡ length (encode_all gs) = sym bytes_same in
+              let c : n ≡ length es = en ∙ sym (length_bodies 0 (functions flags) cs (ops_in s)) in
+              let t : too_short s o ns fs ks (marks_in (ops_in s)) ≡ false =
+              rw (sym m_is, le-ltb (length o) (length s) ho, le-ltb (length ns) m hn, le-ltb (length fs) m hf, le-ltb (length ks) m hk) refl in
+              rw (a, b, c, eo, e1, e2, e3) (sym (rw t refl) ∙ answer_is o ns fs ks)

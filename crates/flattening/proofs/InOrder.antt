@@ -295,9 +295,12 @@ module _ (os : List Op) (cs seen : List ℕ) (e : number 0 0 0 [] [] (notes os) 
   pub marks_in_order : of_marks cs os ≡ others seen
   marks_in_order = sym ordered.0
 
+  pub each_has_body : length cs ≡ length os
+  each_has_body = given.0 ∙ length_notes os
+
   -- a body for each Function mark
   pub as_many_marks : length (of_marks cs os) ≡ marks_in os
-  as_many_marks = counted cs os (given.0 ∙ length_notes os)
+  as_many_marks = counted cs os each_has_body
 
   pub as_many_bodies : length (others seen) ≡ marks_in os
   as_many_bodies = ap length ordered.0 ∙ as_many_marks
