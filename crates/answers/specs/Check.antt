@@ -1,11 +1,16 @@
 -- 01's number and place for each answer of the check. Assumes nothing.
 use Rattle.std.specs.Prelude.{ℕ, Result, Ok, Err}
+use Rattle.patch_reader.specs.declared.reader.Unread.{Unread}
 use Rattle.answers.specs.declared.check.CheckError.{CheckError}
 use Rattle.answers.specs.declared.check.CheckError.TheVariants.{BadFile, NoOpenEnd, NoOpenElse, FewLanes, NeverClosed}
 
 -- the op count of a patch that passed, or why it does not pass
 abbrev pub Verdict : Type 0
 Verdict = Result ℕ CheckError
+
+-- "Every public call reads the patch first": what a file that is not good answers
+abbrev pub bad_file : Unread → CheckError
+bad_file u = BadFile u.number u.place
 
 -- the first column of 'Numbers given back'
 abbrev pub number_of : Verdict → ℕ

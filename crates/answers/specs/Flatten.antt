@@ -1,6 +1,7 @@
 -- 01's number and place for each answer of flattening, and what was written. Assumes nothing.
 use Rattle.std.specs.Prelude.{ℕ, Result, Ok, Err}
 use Rattle.answers.specs.declared.flatten.Flattened.{Flattened}
+use Rattle.patch_reader.specs.declared.reader.Unread.{Unread}
 use Rattle.answers.specs.declared.flatten.FlattenError.{FlattenError}
 use Rattle.answers.specs.declared.flatten.FlattenError.TheVariants.{BadFile, NoOpenEnd, NoRoom}
 
@@ -10,6 +11,10 @@ Flattening = Result Flattened FlattenError
 -- written: the result's ops, bytes and entries
 abbrev pub written : ℕ → ℕ → ℕ → Flattening
 written n b k = Ok (record { ops = n; bytes = b; bodies = k })
+
+-- "Every public call reads the patch first": what a file that is not good answers
+abbrev pub bad_file : Unread → FlattenError
+bad_file u = BadFile u.number u.place
 
 -- the first column of 'Numbers given back'
 abbrev pub number_of : Flattening → ℕ

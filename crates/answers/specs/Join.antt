@@ -1,6 +1,7 @@
 -- 01's number, place and length for each answer of joining. Assumes nothing.
 use Rattle.std.specs.Prelude.{ℕ, Result, Ok, Err}
 use Rattle.answers.specs.declared.join.Joined.{Joined}
+use Rattle.patch_reader.specs.declared.reader.Unread.{Unread}
 use Rattle.answers.specs.declared.join.JoinError.{JoinError}
 use Rattle.answers.specs.declared.join.JoinError.TheVariants.{BadFile, NoRoom}
 
@@ -10,6 +11,10 @@ Joining = Result Joined JoinError
 -- written: the result's op count and byte length
 abbrev pub written : ℕ → ℕ → Joining
 written n l = Ok (record { ops = n; bytes = l })
+
+-- "Every public call reads the patch first": what a file that is not good answers
+abbrev pub bad_file : Unread → JoinError
+bad_file u = BadFile u.number u.place
 
 -- the first column of 'Numbers given back': a bad file's own, 40, or 0
 abbrev pub number_of : Joining → ℕ

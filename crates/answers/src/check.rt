@@ -1,8 +1,9 @@
 // What the check answers.
 ghost use Rattle.std.specs.Prelude.{◌≡◌};
-ghost use Rattle.answers.specs.Check.{number_of, place_of};
+ghost use Rattle.answers.specs.Check.{bad_file, number_of, place_of};
 
 use crate::numbered::Numbered;
+use patch_reader::reader::Unread;
 
 // Why a patch does not pass: the refusal of a bad file, its number and its byte; or the op that breaks a rule: an End or an Else with no open
 // bracket, too few known lanes, a bracket that is never closed.
@@ -13,6 +14,17 @@ pub enum CheckError {
     NoOpenElse { op: usize },
     FewLanes { op: usize },
     NeverClosed { op: usize },
+}
+
+impl From<Unread> for CheckError {
+    ghost from_gives = { λ unread error. error ≡ bad_file unread };
+
+    fn from(unread: Unread) -> CheckError {
+        CheckError::BadFile {
+            number: unread.number,
+            place: unread.place,
+        }
+    }
 }
 
 // Of a patch that passed, how many ops it has.

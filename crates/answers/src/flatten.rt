@@ -1,8 +1,9 @@
 // What flattening answers.
 ghost use Rattle.std.specs.Prelude.{◌≡◌};
-ghost use Rattle.answers.specs.Flatten.{number_of, place_of, bytes_of, bodies_of};
+ghost use Rattle.answers.specs.Flatten.{bad_file, number_of, place_of, bytes_of, bodies_of};
 
 use crate::numbered::Numbered;
+use patch_reader::reader::Unread;
 
 // What was written: ops, bytes, and entries of function bodies.
 #[derive(Clone, Copy, Debug, PartialEq, Eq)]
@@ -18,6 +19,17 @@ pub enum FlattenError {
     BadFile { number: usize, place: usize },
     NoOpenEnd { op: usize },
     NoRoom,
+}
+
+impl From<Unread> for FlattenError {
+    ghost from_gives = { λ unread error. error ≡ bad_file unread };
+
+    fn from(unread: Unread) -> FlattenError {
+        FlattenError::BadFile {
+            number: unread.number,
+            place: unread.place,
+        }
+    }
 }
 
 impl Numbered for Result<Flattened, FlattenError> {

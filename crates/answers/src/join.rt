@@ -1,8 +1,9 @@
 // What joining answers.
 ghost use Rattle.std.specs.Prelude.{◌≡◌};
-ghost use Rattle.answers.specs.Join.{number_of, place_of, length_of};
+ghost use Rattle.answers.specs.Join.{bad_file, number_of, place_of, length_of};
 
 use crate::numbered::Numbered;
+use patch_reader::reader::Unread;
 
 // What was written: its op count and its byte length.
 #[derive(Clone, Copy, Debug, PartialEq, Eq)]
@@ -16,6 +17,17 @@ pub struct Joined {
 pub enum JoinError {
     BadFile { number: usize, place: usize },
     NoRoom,
+}
+
+impl From<Unread> for JoinError {
+    ghost from_gives = { λ unread error. error ≡ bad_file unread };
+
+    fn from(unread: Unread) -> JoinError {
+        JoinError::BadFile {
+            number: unread.number,
+            place: unread.place,
+        }
+    }
 }
 
 impl Numbered for Result<Joined, JoinError> {

@@ -1,11 +1,11 @@
 -- What the calls for linking give back: the number, what is written to `answer`, and what the call itself leaves of what it was lent. Assumes nothing.
-use Rattle.std.specs.Prelude.{cond, List, [], ◌∷◌, ℕ, ltb, length}
+use Rattle.std.specs.Prelude.{cond, List, [], ◌∷◌, ℕ, ltb, length, Result, Ok, Err}
 use Rattle.lane_loops.specs.Loops.{zip_to, beside}
-use Rattle.patch_reader.specs.declared.reader.Read.{Read}
+use Rattle.patch_reader.specs.declared.reader.Unread.{Unread}
 use Rattle.machine.specs.Calls.{Slices, slices, Ended}
 use Rattle.answers.specs.Run as running
 use Rattle.answers.specs.Check as checking
-use Rattle.answers.specs.declared.check.Verdict.{Verdict}
+use Rattle.answers.specs.Check.{Verdict}
 use Rattle.answers.specs.Join as joining
 use Rattle.answers.specs.Flatten as flattening
 use Rattle.joining.specs.Joined as joined
@@ -23,9 +23,10 @@ pub record Given : Type 0 where
 abbrev pub given : ℕ → List ℕ → Given
 given n a = record { number = n; answer = a }
 
--- number, place, and the ops read
-abbrev pub of_read : Read → List ℕ → Given
-of_read r a = given r.number (told (r.number ∷ r.place ∷ r.ops ∷ []) a)
+-- number, place, and the ops read: of a good file the place is the op count
+abbrev pub of_read : Result ℕ Unread → List ℕ → Given
+of_read (Ok n) a = given 0 (told (0 ∷ n ∷ n ∷ []) a)
+of_read (Err u) a = given u.number (told (u.number ∷ u.place ∷ u.ops ∷ []) a)
 
 -- number and place
 abbrev pub of_check : Verdict → List ℕ → Given

@@ -6,11 +6,6 @@ ghost use Rattle.linked.specs.Linked.{told};
 pub fn tell(answer: &mut [u64], values: &[u64])
     ensures { answer.new ≡ told values.now answer.old }
 {
-    let room = answer.len();
-    let n = values.len();
-    if room < n {
-        lane_loops::loops::copy_lanes(answer, values, room);
-        return;
-    }
-    lane_loops::loops::copy_lanes(answer, values, n);
+    let n = values.len().min(answer.len());
+    answer[..n].copy_from_slice(&values[..n]);
 }

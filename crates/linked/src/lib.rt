@@ -14,6 +14,9 @@ ghost use Rattle.flattening.specs.Entries.{report_of, flatten_to};
 ghost use Rattle.linked.specs.Linked.{given, of_read, of_check, run, of_run, join, of_join, flatten, of_flatten};
 
 use crate::answer::tell;
+use answers::flatten::{bodies_of, bytes_of};
+use answers::join::length_of;
+use answers::numbered::Numbered;
 use flattening::body::Body;
 use flattening::export::Report;
 use machine::machine::Machine;
@@ -25,11 +28,17 @@ mod answer; // what is written to `answer`
 pub extern "C" fn feltcairn_read(bytes: &[u8], answer: &mut [u64]) -> usize
     ensures { given result answer.new ≡ of_read (read_of (patch_of bytes.now)) answer.old }
 {
-    let r = patch_reader::reader::read_patch(bytes);
-    let number = r.number;
-    let told = [number as u64, r.place as u64, r.ops as u64];
-    tell(answer, &told);
-    number
+    match patch_reader::reader::read_patch(bytes) {
+        Ok(ops) => {
+            tell(answer, &[0, ops as u64, ops as u64]);
+            0
+        }
+        Err(unread) => {
+            let told = [unread.number as u64, unread.place as u64, unread.ops as u64];
+            tell(answer, &told);
+            unread.number
+        }
+    }
 }
 
 // The check: number and place.
@@ -37,10 +46,9 @@ pub extern "C" fn feltcairn_read(bytes: &[u8], answer: &mut [u64]) -> usize
 pub extern "C" fn feltcairn_check(bytes: &[u8], answer: &mut [u64]) -> usize
     ensures { given result answer.new ≡ of_check (check_of bytes.now) answer.old }
 {
-    let v = patch_check::check::check(bytes);
-    let number = answers::check::number_of(v);
-    let place = answers::check::place_of(v);
-    let told = [number as u64, place as u64];
+    let verdict = patch_check::check::check(bytes);
+    let number = verdict.number();
+    let told = [number as u64, verdict.place() as u64];
     tell(answer, &told);
     number
 }
@@ -66,19 +74,14 @@ pub extern "C" fn feltcairn_run_fresh(
     let r = Machine::run_fresh(
         bytes, register, tape, table, channel, input, output, tally, budget, mode,
     );
-    let a = r.answer;
     let h = r.machine.numbers;
-    let number = answers::run::number_of(a);
-    let place = answers::run::place_of(a, h.position);
-    let lane = answers::run::lane_of(a);
-    let steps = r.steps;
-    let written = h.written;
+    let number = r.answer.number();
     let told = [
         number as u64,
-        place as u64,
-        steps as u64,
-        written as u64,
-        lane as u64,
+        r.answer.place(h.position) as u64,
+        u64::from(r.steps),
+        h.written as u64,
+        r.answer.lane() as u64,
     ];
     tell(answer, &told);
     number
@@ -89,11 +92,13 @@ pub extern "C" fn feltcairn_run_fresh(
 pub extern "C" fn feltcairn_join(bytes: &[u8], out: &mut [u8], answer: &mut [u64]) -> usize
     ensures { join result answer.new out.new ≡ of_join (join_of bytes.now out.old) answer.old }
 {
-    let r = joining::join::join(bytes, out);
-    let number = answers::join::number_of(r);
-    let place = answers::join::place_of(r);
-    let length = answers::join::length_of(r);
-    let told = [number as u64, place as u64, length as u64];
+    let joined = joining::join::join(bytes, out);
+    let number = joined.number();
+    let told = [
+        number as u64,
+        joined.place() as u64,
+        length_of(joined) as u64,
+    ];
     tell(answer, &told);
     number
 }
@@ -110,12 +115,14 @@ pub extern "C" fn feltcairn_flatten_numbers(
 ) -> usize
     ensures { flatten result answer.new out.new numbers.new firsts.new counts.new ≡ of_flatten (flatten_of bytes.now out.old numbers.old firsts.old counts.old) answer.old }
 {
-    let r = flattening::numbers::flatten_numbers(bytes, out, numbers, firsts, counts);
-    let number = answers::flatten::number_of(r);
-    let place = answers::flatten::place_of(r);
-    let length = answers::flatten::bytes_of(r);
-    let bodies = answers::flatten::bodies_of(r);
-    let told = [number as u64, place as u64, length as u64, bodies as u64];
+    let flattened = flattening::numbers::flatten_numbers(bytes, out, numbers, firsts, counts);
+    let number = flattened.number();
+    let told = [
+        number as u64,
+        flattened.place() as u64,
+        bytes_of(flattened) as u64,
+        bodies_of(flattened) as u64,
+    ];
     tell(answer, &told);
     number
 }

@@ -12,6 +12,9 @@ use Rattle.ops.specs.Syntax.Control.{function, call, ret, while, if, else, end}
 use Rattle.ops.specs.Syntax.Plain.{comment, store, move, swap, locate, offset, deref, refer, cell, lane, get, put, peek, poke, ffi_call, alloc, free}
 use Rattle.ops.specs.Syntax.Op.{control, set, load, plain}
 use Rattle.kind_table.specs.Kinds.{need, after}
+use Rattle.kind_table.specs.declared.need.Need.{Need}
+use Rattle.kind_table.specs.declared.known.Known.{Known}
+use Rattle.kind_table.specs.declared.known.Known.TheVariants.{AsBefore}
 use Rattle.ops.specs.Patch.{Item, row_in, count_in}
 use Rattle.ops.specs.Decode.{rows, row_at, plain_with, op_with, op_at, plain_count, op_count}
 use Rattle.patch_reader.proofs.Whole.{Tells, tells}
@@ -21,8 +24,9 @@ use Rattle.file_laws.proofs.Rows.{control_rule, plain_rule, rule, Row, row_rule}
 use Rattle.file_laws.proofs.Meaning.{means}
 use Rattle.patch_check.specs.Rules.{opens, closes, asks, leaves}
 use Rattle.patch_check.specs.Check.{stray_end, stray_else, depth, outermost, ended, scan}
-use Rattle.patch_check.specs.Rows.{opens_of, ends_of, elses_of, need_of, after_of, outermost_of, row_scan}
-use Rattle.answers.specs.declared.check.Verdict.TheVariants.{Passed, NeverClosed}
+use Rattle.patch_check.specs.Rows.{opens_of, ends_of, elses_of, asked, need_of, left, after_of, outermost_of, row_scan}
+use Rattle.answers.specs.declared.check.CheckError.TheVariants.{NeverClosed}
+use Rattle.std.specs.Prelude.{Ok, Err}
 
 -- ---- brackets: tested at each of the 62 rows by one computation
 
@@ -62,13 +66,6 @@ row_bracket k h =
     }
 
 -- ---- what a payload leaves of an op as it was
-
--- the lanes that a need column asks for in the check, and those that an after column leaves
-abbrev asked : ℕ → ℕ → ℕ
-asked c n = cond (eqb c 0) 0 (cond (eqb c 2) n 1)
-
-abbrev left : ℕ → ℕ → ℕ → ℕ
-left c n m = cond (eqb c 0) m (cond (eqb c 1) n 1)
 
 module _ (s : List ℕ) (p n : ℕ) where
   mark_with : (o : Op) → bracket (op_with s p n o) ≡ bracket o
@@ -112,7 +109,7 @@ module _ (s : List ℕ) (p n : ℕ) where
   asks_with (plain q) = plain_asks q
 
   -- the plain ops keep the known lanes
-  plain_after : (q : Plain) → after (plain_rule q) ≡ 0
+  plain_after : (q : Plain) → after (plain_rule q) ≡ AsBefore
   plain_after (comment bs) = refl
   plain_after (store m) = refl
   plain_after (move v) = refl
@@ -135,7 +132,7 @@ module _ (s : List ℕ) (p n : ℕ) where
   leaves_with (control c) m = refl
   leaves_with (set k vs) m = refl
   leaves_with (load c) m = refl
-  leaves_with (plain q) m = sym (ap (λ (c : ℕ). left c (plain_count (plain_with s p n q)) m) (plain_after q))
+  leaves_with (plain q) m = sym (ap (λ (c : Known). left c (plain_count (plain_with s p n q)) m) (plain_after q))
 
 -- ---- an item and its op
 
@@ -163,9 +160,9 @@ module _ (s : List ℕ) (i : Item) (h : IsItem s i) where
       record {
         sees = subst (λ (m : Bracket). RowSees i.row m) (sym (mark_with s i.payload i.count o)) (row_bracket i.row told.small);
         needing =
-            ap (λ (c : ℕ). asked c i.count) its_row.needed
+            ap (λ (c : Need). asked c i.count) its_row.needed
             ∙ sym (asks_with s i.payload i.count o ∙ counted (asked (need (rule o))));
-        leaving = λ m. ap (λ (c : ℕ). left c i.count m) its_row.known
+        leaving = λ m. ap (λ (c : Known). left c i.count m) its_row.known
             ∙ sym (leaves_with s i.payload i.count o m ∙ counted (λ (n : ℕ). left (after (rule o)) n m));
       }
 
@@ -197,7 +194,7 @@ unfolding outermost_of
 froms zero p f = refl
 froms (suc d) p f = rw (ne_eqb (suc d) 0 (λ e. omega arith))
 
-ends : (d p f : ℕ) → cond (eqb d 0) (Passed p) (NeverClosed f) ≡ ended d p f
+ends : (d p f : ℕ) → cond (eqb d 0) (Ok p) (Err (NeverClosed f)) ≡ ended d p f
 ends zero p f = refl
 ends (suc d) p f = rw (ne_eqb (suc d) 0 (λ e. omega arith))
 

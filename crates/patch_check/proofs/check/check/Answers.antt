@@ -1,26 +1,19 @@
 -- `check::check` meets its contract. Assumes nothing.
-use Rattle.ops.specs.Patch.{row_in, count_in}
-use Rattle.file_laws.proofs.Loaded.{part_length, part_fits}
-use Rattle.patch_check.proofs.Loaded.{bad_file, parts, good_file}
+use Rattle.file_laws.proofs.Loaded.{few, good_ops}
+use Rattle.patch_check.proofs.Loaded.{bad_file_lem, parts, good_file_lem}
 use Rattle.patch_check.proofs.check.check.Goals as goal
 
-pub returns-then-number-ne0 : goal.returns-then-number-ne0
-returns-then-number-ne0 c = bad_file _ _ c.load-read.ensures.value c.if-number-ne0.true
+pub returns-in_err-count : goal.returns-in_err-count
+returns-in_err-count c = bad_file_lem _ _ c.in_err-count.ensures.value _ c.from_residual.ensures.1
 
-pub slice_bounds-rows-end : goal.slice_bounds-rows-end
-slice_bounds-rows-end c = part_fits _ _ c.load-read.ensures.value row_in _ _ c.load-read.ensures.rows_after
+pub shared_ref_as_front-check_ops : goal.shared_ref_as_front-check_ops
+shared_ref_as_front-check_ops c = few _ _ (good_ops _ _ c.in_ok-count.ensures.value)
 
-pub slice_bounds-check_ops-end : goal.slice_bounds-check_ops-end
-slice_bounds-check_ops-end c = part_length _ _ c.load-read.ensures.value row_in _ _ c.load-read.ensures.rows_after
-
-pub slice_bounds-counts-end : goal.slice_bounds-counts-end
-slice_bounds-counts-end c = part_fits _ _ c.load-read.ensures.value count_in _ _ c.load-read.ensures.counts_after
-
-pub slice_bounds-check_ops-end-2 : goal.slice_bounds-check_ops-end-2
-slice_bounds-check_ops-end-2 c = part_length _ _ c.load-read.ensures.value count_in _ _ c.load-read.ensures.counts_after
+pub shared_ref_as_front-check_ops-2 : goal.shared_ref_as_front-check_ops-2
+shared_ref_as_front-check_ops-2 c = few _ _ (good_ops _ _ c.in_ok-count.ensures.value)
 
 pub check_ops-requires : goal.check_ops-requires
-check_ops-requires c = parts _ _ c.load-read.ensures.value _ _ _ _ c.load-read.ensures.rows_after c.load-read.ensures.counts_after
+check_ops-requires c = parts _ _ c.in_ok-count.ensures.value _ _ _ _ c.load.ensures.rows_after c.load.ensures.counts_after
 
 pub returns : goal.returns
-returns c = good_file _ _ c.load-read.ensures.value _ _ _ _ c.load-read.ensures.rows_after c.load-read.ensures.counts_after c.if-number-ne0.false _ c.check_ops.ensures
+returns c = good_file_lem _ _ c.in_ok-count.ensures.value _ _ _ _ c.load.ensures.rows_after c.load.ensures.counts_after _ c.check_ops.ensures
