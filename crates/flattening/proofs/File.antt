@@ -5,7 +5,7 @@ use native.Mathlib.Omega.{arith}
 use borrow.Author.Tests.{lt-ltb, le-ltb}
 use mathlib.Core.Path.{◌≡◌, refl, ap, ap₂, sym, ◌∙◌}
 use mathlib.Core.Bool.{Bool, true, false, cond}
-use Rattle.std.specs.Prelude.{Err, ◌==◌, ◌⊎◌}
+use Rattle.std.specs.Prelude.{Ok, Err, ◌==◌, ◌⊎◌}
 use Rattle.std.proofs.Common.{inl, inr}
 use mathlib.Core.List.{List, [], ◌∷◌, map}
 use lib.ListN.{length, get_or, take, length-map, length-append, get_or-map}
@@ -18,7 +18,7 @@ use Rattle.ops.specs.Patch.{Item, row_in, mark_of, patch_of}
 use Rattle.patch_reader.specs.Answer.{read_of}
 use Rattle.ops.specs.Decode.{rows, row_at, op_with, op_at}
 use Rattle.ops.specs.Write.{encode_all, mark_in, marks_in}
-use Rattle.patch_reader.specs.declared.reader.Read.{Read}
+use Rattle.patch_reader.specs.declared.reader.Unread.{Unread}
 use Rattle.file_laws.proofs.Encoded.{known}
 use Rattle.file_laws.proofs.Items.{IsItem, Every, items_are}
 use Rattle.file_laws.proofs.Fitting.{below_all}
@@ -106,58 +106,67 @@ is_short s o ns fs ks m (inr (inr (inr h))) = rw (le-ltb (length o) (length s) h
 
 -- ---- a bad file
 
-module _ (s : List ℕ) (r : Read) (e : r ≡ read_of (patch_of s)) where
-  pub bad_file : (o ns fs ks : List ℕ) → (r.number ≡ 0 → ⊥) → outcome (Err (error.BadFile r.number r.place)) o ns fs ks ≡ flatten_of s o ns fs ks
-  unfolding flatten_of
-  bad_file o ns fs ks z = rw (refused_are s (loaded.bad_file s r e z), loaded.number_is s r e, loaded.bad_place s r e z)
+pub bad_file : (s o ns fs ks : List ℕ) (u : Unread) (a : Flattening) → Err u ≡ read_of (patch_of s) → a ≡ Err (answers.bad_file u)
+    → outcome a o ns fs ks ≡ flatten_of s o ns fs ks
+unfolding flatten_of
+bad_file s o ns fs ks u a e ea = rw (ea, refused_are s (loaded.bad_file s u e), loaded.bad_number s u e, loaded.bad_place s u e) refl
 
 -- ---- a good file
 
-module _ (s : List ℕ) (r : Read) (e : r ≡ read_of (patch_of s)) (z : r.number ≡ 0) where
-  pub good : (patch_of s).number ≡ 0
-  good = loaded.good_file s r e z
+module _ (s : List ℕ) (n : ℕ) (e : Ok n ≡ read_of (patch_of s)) where
+  good : (patch_of s).number ≡ 0
+  good = loaded.good_file s n e
+
+  good_count : n ≡ length (patch_of s).items
+  good_count = loaded.good_ops s n e
+
+  pub few_ops : n ≤ 4096
+  few_ops = loaded.few s n good_count
 
   ops_here : ops_in s ≡ map (op_at s) (patch_of s).items
   unfolding ops_in
   ops_here = ap good_ops (ops_are s good)
 
-  pub op_count : length (ops_in s) ≡ r.ops
-  op_count = ap length ops_here ∙ length-map (patch_of s).items (op_at s) ∙ sym (loaded.ops_is s r e)
+  op_count : length (ops_in s) ≡ n
+  op_count = ap length ops_here ∙ length-map (patch_of s).items (op_at s) ∙ sym good_count
 
   module _ (k₀ k : List ℕ) (ek : k ≡ fill (map row_in (patch_of s).items) k₀) where
-    rows_are : take r.ops k ≡ map row_in (patch_of s).items
-    rows_are = loaded.part_is s r e row_in k k₀ ek
+    pub few_rows : length (take n k) ≤ 4096
+    few_rows = loaded.part_few s n good_count row_in k k₀ ek
 
-    notes_here : row_notes (take r.ops k) ≡ notes (ops_in s)
+    rows_are : take n k ≡ map row_in (patch_of s).items
+    rows_are = loaded.part_is s n good_count row_in k k₀ ek
+
+    notes_here : row_notes (take n k) ≡ notes (ops_in s)
     notes_here = ap row_notes rows_are ∙ notes_are s (patch_of s).items (items_are s) ∙ ap notes (sym ops_here)
 
-    marks_here : row_marks (take r.ops k) ≡ marks_in (ops_in s)
+    marks_here : row_marks (take n k) ≡ marks_in (ops_in s)
     marks_here = ap row_marks rows_are ∙ marks_are s (patch_of s).items (items_are s) ∙ ap marks_in (sym ops_here)
 
     by_flat : (o ns fs ks : List ℕ) (f : Flat) → flatten (ops_in s) ≡ f → of_flat s o ns fs ks (marks_in (ops_in s)) f ≡ flatten_of s o ns fs ks
     unfolding flatten_of
     by_flat o ns fs ks f q = ap (of_flat s o ns fs ks (marks_in (ops_in s))) (sym q) ∙ ap (of_patch s o ns fs ks) (sym (is_patch s good))
 
-    flat_of : (x : Numbered) → x ≡ number 0 0 0 [] [] (row_notes (take r.ops k)) → flatten (ops_in s) ≡ laid (ops_in s) x
+    flat_of : (x : Numbered) → x ≡ number 0 0 0 [] [] (row_notes (take n k)) → flatten (ops_in s) ≡ laid (ops_in s) x
     unfolding flatten
     flat_of x q = ap (λ (ns : List Note). laid (ops_in s) (number 0 0 0 [] [] ns)) (sym notes_here) ∙ ap (laid (ops_in s)) (sym q)
 
     -- "An End with no open bracket is 10"
-    pub stray_file : (o ns fs ks : List ℕ) (p : ℕ) (a : Flattening) → stray p ≡ number 0 0 0 [] [] (row_notes (take r.ops k)) → a ≡ Err (error.NoOpenEnd p)
+    pub stray_file : (o ns fs ks : List ℕ) (p : ℕ) (a : Flattening) → stray p ≡ number 0 0 0 [] [] (row_notes (take n k)) → a ≡ Err (error.NoOpenEnd p)
         → outcome a o ns fs ks ≡ flatten_of s o ns fs ks
     unfolding flatten
     stray_file o ns fs ks p a t ea = rw ea (by_flat o ns fs ks (loose p) (flat_of (stray p) t))
 
     -- every op has its body
-    module _ (owner : List ℕ) (flags : List Bool) (t : numbered (take (length (take r.ops k)) owner) (listed 0 flags) ≡ number 0 0 0 [] [] (row_notes (take r.ops k))) where
+    module _ (owner : List ℕ) (flags : List Bool) (t : numbered (take (length (take n k)) owner) (listed 0 flags) ≡ number 0 0 0 [] [] (row_notes (take n k))) where
       abbrev cs : List ℕ
-      cs = take r.ops owner
+      cs = take n owner
 
       abbrev seen : List ℕ
       seen = listed 0 flags
 
-      told_is : numbered cs seen ≡ number 0 0 0 [] [] (row_notes (take r.ops k))
-      told_is = ap (λ (j : ℕ). numbered (take j owner) seen) (loaded.part_length s r e row_in k k₀ ek) ∙ t
+      told_is : numbered cs seen ≡ number 0 0 0 [] [] (row_notes (take n k))
+      told_is = ap (λ (i : ℕ). numbered (take i owner) seen) (loaded.part_length s n good_count row_in k k₀ ek) ∙ t
 
       abbrev gs : List Op
       gs = ops_by flags cs (ops_in s)
@@ -175,10 +184,10 @@ module _ (s : List ℕ) (r : Read) (e : r ≡ read_of (patch_of s)) (z : r.numbe
       numbering : number 0 0 0 [] [] (notes (ops_in s)) ≡ numbered cs seen
       numbering = ap (number 0 0 0 [] []) (sym notes_here) ∙ sym told_is
 
-      entries_few : length (functions flags) ≤ row_marks (take r.ops k)
+      entries_few : length (functions flags) ≤ row_marks (take n k)
       entries_few = omega (arith, as_many_bodies (ops_in s) cs seen numbering, marks_here)
 
-      module _ (o ns fs ks : List ℕ) (m : ℕ) (em : m ≡ row_marks (take r.ops k)) where
+      module _ (o ns fs ks : List ℕ) (m : ℕ) (em : m ≡ row_marks (take n k)) where
         m_is : m ≡ marks_in (ops_in s)
         m_is = em ∙ marks_here
 
@@ -202,7 +211,7 @@ module _ (s : List ℕ) (r : Read) (e : r ≡ read_of (patch_of s)) (z : r.numbe
                   same_ops (ops_in s) gs _ flat_is,
                   length-append (gathered (functions flags) cs (ops_in s)) (body 0 cs (ops_in s)),
                   op_count,
-                  loaded.few s r e,
+                  few_ops,
                 );
             bytes = omega (arith, bytes_same, ho);
             numbers = omega (arith, entries_few, em, hn);
@@ -210,13 +219,13 @@ module _ (s : List ℕ) (r : Read) (e : r ≡ read_of (patch_of s)) (z : r.numbe
             counts = omega (arith, entries_few, em, hk);
           }
 
-          pub written_file : (n : ℕ) (o' ns' fs' ks' : List ℕ) → n ≡ length (functions flags) → o' ≡ fill (encode_all gs) o
+          pub written_file : (j : ℕ) (o' ns' fs' ks' : List ℕ) → j ≡ length (functions flags) → o' ≡ fill (encode_all gs) o
               → ns' ≡ fill (map number_in es) ns → fs' ≡ fill (map first_in es) fs → ks' ≡ fill (map count_in es) ks
-              → outcome (answers.written r.ops (length s) n) o' ns' fs' ks' ≡ flatten_of s o ns fs ks
-          written_file n o' ns' fs' ks' en eo e1 e2 e3 =
-              let a : r.ops ≡ length gs = sym op_count ∙ sym (same_ops (ops_in s) gs _ flat_is) in
+              → outcome (answers.written n (length s) j) o' ns' fs' ks' ≡ flatten_of s o ns fs ks
+          written_file j o' ns' fs' ks' en eo e1 e2 e3 =
+              let a : n ≡ length gs = sym op_count ∙ sym (same_ops (ops_in s) gs _ flat_is) in
               let b : length s ≡ length (encode_all gs) = sym bytes_same in
-              let c : n ≡ length es = en ∙ sym (length_bodies 0 (functions flags) cs (ops_in s)) in
+              let c : j ≡ length es = en ∙ sym (length_bodies 0 (functions flags) cs (ops_in s)) in
               let t : too_short s o ns fs ks (marks_in (ops_in s)) ≡ false =
               rw (sym m_is, le-ltb (length o) (length s) ho, le-ltb (length ns) m hn, le-ltb (length fs) m hf, le-ltb (length ks) m hk) refl in
               rw (a, b, c, eo, e1, e2, e3) (sym (rw t refl) ∙ answer_is o ns fs ks)

@@ -19,6 +19,7 @@ use Rattle.flattening.specs.Flatten.Numbered.{stray, numbered}
 use Rattle.flattening.specs.Scope.{row_note, row_notes, here_of, Place, place, turn, stack_of, place_in, passed, Low, listed, told}
 use Rattle.flattening.specs.declared.numbering.Left.{Left}
 use Rattle.flattening.specs.declared.numbering.NoOpenEnd.{NoOpenEnd}
+use Rattle.flattening.specs.declared.numbering.Numbering.{Numbering}
 use Rattle.flattening.specs.declared.numbering.Scope.{Scope}
 use Rattle.flattening.proofs.Flags.{flag_enter, flag_has, flag_count, listed_none}
 
@@ -165,10 +166,10 @@ module _ (ks owner : List ℕ) (seen : List Bool) (s : Scope) (n i : ℕ) (c : S
         let now : drop i (row_notes ks) ≡ row_note k ∷ drop (suc i) (row_notes ks) = notes_at ks i h ∙ ap (λ (j : ℕ). row_note j ∷ drop (suc i) (row_notes ks)) (sym ek) in
         rw (here_is, ← e, ← now) c.rest
 
-    pub stray_end_lem : (o : Option (Unit {0})) (s' : Scope) (x : Result (Unit {0}) NoOpenEnd) (cs ys : List ℕ)
-        → passed o s' ≡ turn (row_note k) h' s.body s.brackets (stack_of s.depth s.around) → o ≡ None → x ≡ Err (record { op = i }) → told x cs ys ≡ number 0 0 0 [] [] (row_notes ks)
+    pub stray_end_lem : (o : Option (Unit {0})) (s' : Scope) (x : Result Numbering NoOpenEnd) (j : ℕ)
+        → passed o s' ≡ turn (row_note k) h' s.body s.brackets (stack_of s.depth s.around) → o ≡ None → x ≡ Err (record { op = i }) → told x j ≡ number 0 0 0 [] [] (row_notes ks)
     unfolding gone
-    stray_end_lem o s' x cs ys t eo ex =
+    stray_end_lem o s' x j t eo ex =
         let e : None ≡ turn (row_note k) h' s.body s.brackets (stack_of s.depth s.around) = rw eo at t in
         rw ex (sym (after_stray (take i owner) i) ∙ rw (← e) at from_here)
 

@@ -1,5 +1,5 @@
 -- The numbering of Flatten as it is computed: by the ops' rows, with a flag for each body seen and the bodies around in an array. Assumes nothing.
-use Rattle.std.specs.Prelude.{ℕ, zero, suc, ◌+◌, ◌≤◌, Bool, cond, List, [], ◌∷◌, eqb, ◌==◌, get_or, count_by, Option, Some, None, Result, Ok, Err}
+use Rattle.std.specs.Prelude.{ℕ, zero, suc, ◌+◌, ◌≤◌, Bool, cond, List, [], ◌∷◌, eqb, ◌==◌, get_or, take, count_by, Option, Some, None, Result, Ok, Err}
 use Rattle.std.specs.List.{All}
 use Rattle.basics.specs.Limits.{most_ops}
 use Rattle.kind_table.specs.Rows as row
@@ -9,6 +9,7 @@ use Rattle.flattening.specs.Flatten.Numbered.{stray, numbered}
 use Rattle.flattening.specs.declared.numbering.Left.{Left}
 use Rattle.flattening.specs.declared.numbering.Scope.{Scope}
 use Rattle.flattening.specs.declared.numbering.NoOpenEnd.{NoOpenEnd}
+use Rattle.flattening.specs.declared.numbering.Numbering.{Numbering}
 
 -- what an op is to flattening, by its row
 unfoldable pub row_note : ℕ → Note
@@ -73,7 +74,7 @@ unfoldable pub listed : ℕ → List Bool → List ℕ
 listed p [] = []
 listed p (t ∷ ts) = let r = listed (suc p) ts in cond t (p ∷ r) r
 
--- what the numbering found, where cs are the ops' bodies and seen the bodies with an op
-abbrev pub told : Result (Unit {0}) NoOpenEnd → List ℕ → List ℕ → Numbered
-told (Err e) cs seen = stray e.op
-told (Ok u) cs seen = numbered cs seen
+-- what the numbering of n ops found
+abbrev pub told : Result Numbering NoOpenEnd → ℕ → Numbered
+told (Err e) n = stray e.op
+told (Ok x) n = numbered (take n x.owner) (listed 0 x.seen)

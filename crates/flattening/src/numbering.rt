@@ -113,32 +113,24 @@ impl Scope {
 impl Numbering {
     // Main's body, and one for each op at most.
     pub const BODIES: usize = Read::OPS + 1;
+}
 
-    // No op has a body.
-    pub fn blank() -> Numbering
-        ensures { (result.owner ≡ replicate most_ops 0) × (result.seen ≡ replicate most_bodies false) }
-    {
-        Numbering {
-            owner: [0; Read::OPS],
-            seen: [false; Numbering::BODIES],
-        }
+// The body of each op, and a flag for each body that has an op. An op makes at most one body, so no number is above the op count.
+pub fn number_ops(rows: &[u8]) -> Result<Numbering, NoOpenEnd>
+    requires { length rows.now ≤ most_ops }
+    ensures { told result (length rows.now) ≡ number 0 0 0 [] [] (row_notes rows.now) }
+{
+    let mut owner = [0u16; Read::OPS];
+    let mut seen = [false; Numbering::BODIES];
+    let mut scope = Scope::main();
+    let mut count: usize = 0;
+    for (i, &row) in rows.iter().enumerate() {
+        let k = usize::from(row);
+        let here = here_of(k, scope.body, seen[scope.body + 1], count);
+        scope.pass(k, here).ok_or(NoOpenEnd { op: i })?;
+        count += usize::from(!seen[here]);
+        owner[i] = here as u16;
+        seen[here] = true;
     }
-
-    // The body of each op, and a flag for each body that has an op. An op makes at most one body, so no number is above the op count.
-    pub fn number_ops(&mut self, rows: &[u8]) -> Result<(), NoOpenEnd>
-        requires { (length rows.now ≤ most_ops) × (self.old.seen ≡ replicate most_bodies false) }
-        ensures { told result (take (length rows.now) self.new.owner) (listed 0 self.new.seen) ≡ number 0 0 0 [] [] (row_notes rows.now) }
-    {
-        let mut scope = Scope::main();
-        let mut count: usize = 0;
-        for (i, &row) in rows.iter().enumerate() {
-            let k = usize::from(row);
-            let here = here_of(k, scope.body, self.seen[scope.body + 1], count);
-            scope.pass(k, here).ok_or(NoOpenEnd { op: i })?;
-            count += usize::from(!self.seen[here]);
-            self.owner[i] = here as u16;
-            self.seen[here] = true;
-        }
-        Ok(())
-    }
+    Ok(Numbering { owner, seen })
 }

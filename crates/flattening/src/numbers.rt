@@ -4,7 +4,7 @@ ghost use Rattle.flattening.specs.Scope.{row_marks};
 ghost use Rattle.flattening.specs.Flattened.{outcome, flatten_of};
 
 use crate::bodies::write_bodies;
-use crate::numbering::Numbering;
+use crate::numbering::number_ops;
 use answers::flatten::{FlattenError, Flattened};
 use kind_table::row;
 use patch_reader::reader::{Read, load};
@@ -27,20 +27,10 @@ pub fn flatten_numbers(
 ) -> Result<Flattened, FlattenError>
     ensures { outcome result out.new numbers.new firsts.new counts.new ≡ flatten_of bytes.now out.old numbers.old firsts.old counts.old }
 {
-    let mut rows = [0u8; Read::OPS];
-    let mut lanes = [0u16; Read::OPS];
-    let mut needs = [0u16; Read::OPS];
-    let mut payloads = [0u32; Read::OPS];
-    let read = load(bytes, &mut rows, &mut lanes, &mut needs, &mut payloads);
-    let number = read.number;
-    if number != 0 {
-        let place = read.place;
-        return Err(FlattenError::BadFile { number, place });
-    }
-    let ops = read.ops;
-    let rows = &rows[..ops];
-    let mut numbering = Numbering::blank();
-    numbering.number_ops(rows)?;
+    let mut read = Read::blank();
+    let ops = load(bytes, &mut read)?;
+    let rows = &read.rows[..ops];
+    let numbering = number_ops(rows)?;
     let marks = count_marks(rows);
     if out.len() < bytes.len()
         || numbers.len() < marks

@@ -1,6 +1,0 @@
--- `flattening::numbering::Numbering::number_ops` meets its contract. Assumes nothing.
-use Rattle.flattening.proofs.NumberingLoop.{Scoped}
-use Rattle.flattening.proofs.numbering.Numbering.number_ops.Given as goal
-
-abbrev pub invariant-loop-i : goal.invariant-loop-i
-invariant-loop-i l = Scoped l.rows l.self.owner l.self.seen l.scope l.count l.i
