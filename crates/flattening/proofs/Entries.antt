@@ -10,6 +10,7 @@ use mathlib.Core.List.{List, [], ◌∷◌, ◌++◌, map, append_assoc}
 use lib.Dec.{eqb, ltb}
 use lib.ListN.{length, get_or, set, take, drop, replicate, length-append, length-map, length-replicate, take-append-drop}
 use lib.Seq.{append_snoc, drop-cons, set_at, take_at, drop_at, take-append_seam}
+use Rattle.std.proofs.lemmas.List.{take-replicate, drop-map}
 use Rattle.std.specs.Prelude.{Err}
 use Rattle.basics.proofs.Clash.{clash}
 use Rattle.basics.proofs.Tests.{or_right, by_case}
@@ -32,7 +33,7 @@ use Rattle.flattening.specs.declared.body.Body.{Body}
 use Rattle.answers.specs.declared.flatten.FlattenError.{FlattenError}
 use Rattle.answers.specs.declared.flatten.FlattenError.TheVariants.{BadFile, NoOpenEnd, NoRoom}
 use Rattle.flattening.specs.declared.flatten.Columns.{Columns}
-use Rattle.flattening.proofs.FewBodies.{few_bodies, length_bodies}
+use Rattle.flattening.proofs.InOrder.{as_many_bodies, length_bodies}
 use Rattle.flattening.proofs.Copying.{is_patch}
 use Rattle.flattening.proofs.FlattenedIsAPatch.{patch_again, Says, bodies_say}
 
@@ -41,13 +42,8 @@ use Rattle.flattening.proofs.FlattenedIsAPatch.{patch_again, Says, bodies_say}
 abbrev zeros : ℕ → List ℕ
 zeros n = replicate n 0
 
-take_zeros : (m n : ℕ) → n ≤ m → take n (zeros m) ≡ zeros n
-take_zeros m zero h = refl
-take_zeros zero (suc n) h = absurd (not-suc-le-zero h)
-take_zeros (suc m) (suc n) h = ap (λ (l : List ℕ). 0 ∷ l) (take_zeros m n (le_of_suc-le-suc h))
-
 part_long : (n : ℕ) → n ≤ 256 → n ≡ length (take n (zeros 256))
-part_long n h = sym (ap length (take_zeros 256 n h) ∙ length-replicate n 0)
+part_long n h = sym (ap length (take-replicate n 256 0 h) ∙ length-replicate n 0)
 
 columns_are : (s o o' : List ℕ) (a : Flattening) (n : ℕ) (ns fs cs : List ℕ) → n ≤ 256
     → length ns ≡ length (take n (zeros 256)) → length fs ≡ length (take n (zeros 256)) → length cs ≡ length (take n (zeros 256))
@@ -59,7 +55,7 @@ columns_are s o o' a n ns fs cs h ln lf lc e = by (drop n (zeros 256))
     p = part_long n h
 
     by : (z : List ℕ) → outcome a o' (take n (ns ++ z)) (take n (fs ++ z)) (take n (cs ++ z)) ≡ flatten_of s o (zeros n) (zeros n) (zeros n)
-    by z = rw (take_at ns z n (ln ∙ sym p), take_at fs z n (lf ∙ sym p), take_at cs z n (lc ∙ sym p)) (e ∙ ap (λ (l : List ℕ). flatten_of s o l l l) (take_zeros 256 n h))
+    by z = rw (take_at ns z n (ln ∙ sym p), take_at fs z n (lf ∙ sym p), take_at cs z n (lc ∙ sym p)) (e ∙ ap (λ (l : List ℕ). flatten_of s o l l l) (take-replicate n 256 0 h))
 
 -- ---- the list: one entry after another
 
@@ -100,14 +96,9 @@ beside_append : (bs : List Body) (ns fs cs : List ℕ) → beside (map number_in
 beside_append [] ns fs cs = refl
 beside_append (b ∷ bs) ns fs cs = ap (λ (r : List Body). b ∷ r) (beside_append bs ns fs cs)
 
-drop_map : (f : Body → ℕ) (n : ℕ) (l : List Body) → drop n (map f l) ≡ map f (drop n l)
-drop_map f zero l = refl
-drop_map f (suc n) [] = refl
-drop_map f (suc n) (b ∷ l) = drop_map f n l
-
 fill_column : (f : Body → ℕ) (bs l : List Body) → fill (map f bs) (map f l) ≡ map f bs ++ map f (drop (length bs) l)
 unfolding fill
-fill_column f bs l = ap (λ (k : ℕ). map f bs ++ drop k (map f l)) (length-map bs f) ∙ ap (λ (r : List ℕ). map f bs ++ r) (drop_map f (length bs) l)
+fill_column f bs l = ap (λ (k : ℕ). map f bs ++ drop k (map f l)) (length-map bs f) ∙ ap (λ (r : List ℕ). map f bs ++ r) (drop-map f (length bs) l)
 
 -- the columns of a list, filled with the columns of entries, are the list with the entries over its start
 pub beside_fill : (bs l : List Body) → beside (fill (map number_in bs) (map number_in l)) (fill (map first_in bs) (map first_in l)) (fill (map count_in bs) (map count_in l)) ≡ over bs l
@@ -157,7 +148,7 @@ entries_few os gs bs e = by (number 0 0 0 [] [] (notes os)) refl e
     by (stray p) q x = clash (cc)
     by (numbered cs seen) q x =
         let t : bodies 0 (others seen) cs os ≡ bs = cc in
-        omega (arith, few_bodies os cs seen q, length_bodies 0 (others seen) cs os, ap length t)
+        omega (arith, as_many_bodies os cs seen q, length_bodies 0 (others seen) cs os, ap length t)
 
 -- ---- the whole list, from what flattening into columns answers and leaves
 

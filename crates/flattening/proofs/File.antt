@@ -36,8 +36,7 @@ use Rattle.answers.specs.Flatten.{Flattening}
 use Rattle.answers.specs.Flatten as answers
 use Rattle.answers.specs.declared.flatten.FlattenError.TheVariants as error
 use Rattle.flattening.proofs.Flattened.{same_ops, same_bytes}
-use Rattle.flattening.proofs.FewBodies.{length_bodies}
-use Rattle.flattening.proofs.InOrder.{each_has_body, as_many_bodies}
+use Rattle.flattening.proofs.InOrder.{each_has_body, as_many_bodies, length_bodies}
 use Rattle.flattening.proofs.Copying.{is_patch, file_bytes}
 
 -- ---- rows and ops

@@ -328,6 +328,12 @@ pub record ByMarks (os fs : List Op) (es : List Body) : Type 0 where
   pub ops : fs ≡ gathered (of_marks cs os) cs os ++ body 0 cs os
   pub entries : es ≡ bodies 0 (of_marks cs os) cs os
 
+-- as many entries as bodies
+pub length_bodies : (p : ℕ) (bs cs : List ℕ) (os : List Op) → length (bodies p bs cs os) ≡ length bs
+unfolding bodies
+length_bodies p [] cs os = refl
+length_bodies p (b ∷ bs) cs os = ap suc (length_bodies (p + length (body b cs os)) bs cs os)
+
 bodies_numbers : (p : ℕ) (bs cs : List ℕ) (os : List Op) → map number_in (bodies p bs cs os) ≡ map (λ b. b - 1) bs
 unfolding bodies
 bodies_numbers p [] cs os = refl

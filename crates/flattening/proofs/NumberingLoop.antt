@@ -7,8 +7,8 @@ use mathlib.Core.Path.{◌≡◌, refl, ap, sym, ◌∙◌}
 use mathlib.Core.Bool.{Bool, true, false, cond, not}
 use mathlib.Core.List.{List, [], ◌∷◌, ◌++◌}
 use lib.Dec.{eqb}
-use lib.ListN.{length, get_or, set, take, drop, replicate, length-set, length-replicate, drop_of_length-le}
-use lib.Seq.{get_or-set_same, get_or-set_other, take-suc-set}
+use lib.ListN.{length, get_or, set, take, drop, replicate, length-set, length-map, length-replicate, get_or-map, drop_of_length-le}
+use lib.Seq.{drop-cons, get_or-set_same, get_or-set_other, take-suc-set}
 use mir.Val.{bool_byte}
 use Rattle.std.specs.Prelude.{Option, Some, None, Result, Err}
 use Rattle.std.proofs.lemmas.List.Elements.{All-replicate}
@@ -113,14 +113,8 @@ flag_byte : (t : Bool) → bool_byte (not t) ≡ cond t 0 1
 flag_byte true = refl
 flag_byte false = refl
 
-length_notes : (ks : List ℕ) → length (row_notes ks) ≡ length ks
-length_notes [] = refl
-length_notes (k ∷ ks) = ap suc (length_notes ks)
-
 notes_at : (ks : List ℕ) (i : ℕ) → i < length ks → drop i (row_notes ks) ≡ row_note (get_or ks i 0) ∷ drop (suc i) (row_notes ks)
-notes_at [] i h = absurd (not-suc-le-zero h)
-notes_at (k ∷ ks) zero h = refl
-notes_at (k ∷ ks) (suc i) h = notes_at ks i (omega arith)
+notes_at ks i h = drop-cons (row_notes ks) i (row_note 0) (omega (arith, length-map ks row_note)) ∙ ap (λ (x : Note). x ∷ drop (suc i) (row_notes ks)) (get_or-map row_note ks i 0)
 
 -- before op i: the bodies of the ops before and the numbering of the rest give the numbering of the whole, and n bodies are seen
 pub record Scoped (ks owner : List ℕ) (seen : List Bool) (s : Scope) (n i : ℕ) : Type 0 where
@@ -206,7 +200,7 @@ module _ (ks owner : List ℕ) (seen : List Bool) (s : Scope) (n i : ℕ) (c : S
   unfolding number
   done h =
       let e : i ≡ length ks = omega (arith, c.upto) in
-      let z : drop i (row_notes ks) ≡ [] = drop_of_length-le (row_notes ks) {i = i} (omega (arith, length_notes ks)) in
+      let z : drop i (row_notes ks) ≡ [] = drop_of_length-le (row_notes ks) {i = i} (omega (arith, length-map ks row_note)) in
       ap (λ (j : ℕ). numbered (take j owner) (listed 0 seen)) (sym e)
       ∙ sym (after_done (take i owner) (listed 0 seen))
       ∙ ap (after (take i owner)) (sym (ap (number i s.body s.brackets (stack_of s.depth s.around) (listed 0 seen)) z))

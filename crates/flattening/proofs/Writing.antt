@@ -7,6 +7,7 @@ use mathlib.Core.Path.{◌≡◌, refl, ap, sym, ◌∙◌}
 use mathlib.Core.Bool.{Bool, true, false}
 use mathlib.Core.List.{List, [], ◌∷◌, ◌++◌, map, append_assoc, append-nil}
 use lib.ListN.{length, get_or, set, drop, length-append, length-map, length-set, drop_of_length-le}
+use Rattle.std.proofs.lemmas.List.{map-append}
 use Rattle.ops.specs.Syntax.{Op}
 use Rattle.byte_fields.specs.Storage.{fill, placed}
 use Rattle.ops.specs.Write.{encode_all}
@@ -35,17 +36,13 @@ fill_then xs ys old k e h =
     ∙ placed_then old 0 xs ys k (zero-add (length xs) ∙ sym e) h
     ∙ sym (fill_placed (xs ++ ys) old)
 
-map_snoc : (f : Body → ℕ) (es : List Body) (e : Body) → map f (es ++ (e ∷ [])) ≡ map f es ++ (f e ∷ [])
-map_snoc f [] e = refl
-map_snoc f (x ∷ es) e = ap (λ (l : List ℕ). f x ∷ l) (map_snoc f es e)
-
 -- one more entry
 more : (f : Body → ℕ) (es : List Body) (e : Body) (l old : List ℕ) (n v : ℕ) → l ≡ fill (map f es) old → n ≡ length es → v ≡ f e → n < length old
     → set l n v ≡ fill (map f (es ++ (e ∷ []))) old
 more f es e l old n v q en ev h =
     ap (λ (x : List ℕ). set x n v) q
     ∙ fill_snoc (map f es) old v n (length-map es f ∙ sym en) h
-    ∙ ap (λ (x : List ℕ). fill x old) (ap (λ (w : ℕ). map f es ++ (w ∷ [])) ev ∙ sym (map_snoc f es e))
+    ∙ ap (λ (x : List ℕ). fill x old) (ap (λ (w : ℕ). map f es ++ (w ∷ [])) ev ∙ sym (map-append f es (e ∷ [])))
 
 -- ---- the loop
 

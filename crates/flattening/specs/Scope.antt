@@ -1,5 +1,5 @@
 -- The numbering of Flatten as it is computed: by the ops' rows, with a flag for each body seen and the bodies around in an array. Assumes nothing.
-use Rattle.std.specs.Prelude.{ℕ, zero, suc, ◌+◌, ◌≤◌, Bool, cond, List, [], ◌∷◌, eqb, ◌==◌, get_or, take, count_by, Option, Some, None, Result, Ok, Err}
+use Rattle.std.specs.Prelude.{ℕ, zero, suc, ◌+◌, ◌≤◌, Bool, cond, List, [], ◌∷◌, map, eqb, ◌==◌, get_or, take, count_by, Option, Some, None, Result, Ok, Err}
 use Rattle.std.specs.List.{All}
 use Rattle.basics.specs.Limits.{most_ops}
 use Rattle.kind_table.specs.Rows as row
@@ -16,8 +16,7 @@ unfoldable pub row_note : ℕ → Note
 row_note k = cond (eqb k row.function) enters (cond (eqb k row.while) opens (cond (eqb k row.if) opens (cond (eqb k row.end) closes stays)))
 
 abbrev pub row_notes : List ℕ → List Note
-row_notes [] = []
-row_notes (k ∷ ks) = row_note k ∷ row_notes ks
+row_notes ks = map row_note ks
 
 -- the Function marks among ops of these rows
 abbrev pub row_marks : List ℕ → ℕ

@@ -17,14 +17,16 @@ pub struct Report {
     pub bodies: usize,
 }
 
-fn report_of(answer: Result<Flattened, FlattenError>) -> Report
-    ensures { result ≡ report_of answer }
-{
-    Report {
-        number: answer.number(),
-        place: answer.place(),
-        bytes: bytes_of(answer),
-        bodies: bodies_of(answer),
+impl From<Result<Flattened, FlattenError>> for Report {
+    ghost from_gives = { λ answer report. report ≡ report_of answer };
+
+    fn from(answer: Result<Flattened, FlattenError>) -> Report {
+        Report {
+            number: answer.number(),
+            place: answer.place(),
+            bytes: bytes_of(answer),
+            bodies: bodies_of(answer),
+        }
     }
 }
 
@@ -35,5 +37,5 @@ pub extern "C" fn feltcairn_flatten(bytes: &[u8], out: &mut [u8], bodies: &mut [
         × ((out.new ≡ (flatten_to bytes.now out.old bodies.old).out)
         × (bodies.new ≡ (flatten_to bytes.now out.old bodies.old).bodies)) }
 {
-    report_of(flatten(bytes, out, bodies))
+    Report::from(flatten(bytes, out, bodies))
 }
