@@ -21,8 +21,8 @@ use Rattle.ops.specs.Patch.{patch_of}
 use Rattle.ops.specs.Write.{Below, encode_all, marks_in}
 use Rattle.file_laws.proofs.Fitting.{few_marks_in}
 use Rattle.file_laws.proofs.Meaning.{refused_are}
-use Rattle.flattening.specs.Flatten.{notes, Numbered, number, bodies, others, laid, flatten, Flat}
-use Rattle.flattening.specs.Flatten.Numbered.{stray, numbered}
+use Rattle.flattening.specs.Flatten.{notes, number, others, flatten, Flat}
+use Rattle.flattening.specs.Flatten.Numbered.{numbered}
 use Rattle.flattening.specs.Flatten.Flat.{loose, flat}
 use Rattle.answers.specs.Flatten.{Flattening, bytes_of, bodies_of}
 use Rattle.answers.specs.Flatten as answers
@@ -32,7 +32,7 @@ use Rattle.flattening.specs.declared.body.Body.{Body}
 use Rattle.answers.specs.declared.flatten.FlattenError.{FlattenError}
 use Rattle.answers.specs.declared.flatten.FlattenError.TheVariants.{BadFile, NoOpenEnd, NoRoom}
 use Rattle.flattening.specs.declared.flatten.Columns.{Columns}
-use Rattle.flattening.proofs.InOrder.{as_many_bodies, length_bodies}
+use Rattle.flattening.proofs.InOrder.{as_many_entries}
 use Rattle.flattening.proofs.Copying.{is_patch}
 use Rattle.flattening.proofs.FlattenedIsAPatch.{patch_again, Says, bodies_say}
 
@@ -139,16 +139,6 @@ module _ (s o : List ℕ) (l : List Body) where
       let k : Bool = ltb (length (map count_in l)) m in
       ltb-false (length l) m (ap (λ (j : ℕ). ltb j m) (sym (length-map l count_in)) ∙ or_right f k (or_right n (f || k) (or_right x (n || (f || k)) e)))
 
-entries_few : (os gs : List Op) (bs : List Body) → flatten os ≡ flat gs bs → length bs ≤ marks_in os
-unfolding flatten
-entries_few os gs bs e = by (number 0 0 0 [] [] (notes os)) refl e
-  where
-    by : (r : Numbered) → number 0 0 0 [] [] (notes os) ≡ r → laid os r ≡ flat gs bs → length bs ≤ marks_in os
-    by (stray p) q x = clash (cc)
-    by (numbered cs seen) q x =
-        let t : bodies 0 (others seen) cs os ≡ bs = cc in
-        omega (arith, as_many_bodies os cs seen q, length_bodies 0 (others seen) cs os, ap length t)
-
 -- ---- the whole list, from what flattening into columns answers and leaves
 
 column : (f : Body → ℕ) (bs : List Body) (n : ℕ) (old ns : List ℕ) → take n ns ≡ fill (map f bs) old → ns ≡ map f bs ++ (drop (length (map f bs)) old ++ drop n ns)
@@ -210,7 +200,7 @@ module _ (s o o' : List ℕ) (l : List Body) (a : Flattening) (c : Columns) wher
           → Makes (to_list (λ ns fs cs. cond t (untouched s o ns fs cs NoRoom) (written s o ns fs cs gs bs)))
       go true x h = nothing_written NoRoom h
       go false x h =
-          let few = entries_few os gs bs q in
+          let few = as_many_entries os gs bs q in
           let r = room_enough s o l (marks_in os) x in
           all_written gs bs (omega (arith, few, r)) (omega (arith, few, m)) h
 

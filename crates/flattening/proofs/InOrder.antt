@@ -29,7 +29,7 @@ use Rattle.flattening.specs.Flattened.{number_in}
 use Rattle.flattening.specs.declared.body.Body.{Body}
 use Rattle.flattening.proofs.Flags.{has_none}
 use Rattle.flattening.proofs.Flattened.Ok.{good}
-use Rattle.flattening.proofs.Flattened.{Ok, number_ok, length_notes, has_self, has_more}
+use Rattle.flattening.proofs.Flattened.{Ok, number_ok, has_self, has_more}
 
 -- ---- entering a number
 
@@ -296,7 +296,7 @@ module _ (os : List Op) (cs seen : List ℕ) (e : number 0 0 0 [] [] (notes os) 
   marks_in_order = sym ordered.0
 
   pub each_has_body : length cs ≡ length os
-  each_has_body = given.0 ∙ length_notes os
+  each_has_body = given.0 ∙ length-map os note
 
   -- a body for each Function mark
   pub as_many_marks : length (of_marks cs os) ≡ marks_in os

@@ -16,7 +16,7 @@ use Rattle.machine_model.specs.Step.{enter}
 use Rattle.flattening.specs.Flatten.{Note, Numbered, named, has, fresh, number}
 use Rattle.flattening.specs.Flatten.Note.{enters, opens, closes, stays}
 use Rattle.flattening.specs.Flatten.Numbered.{stray, numbered}
-use Rattle.flattening.specs.Scope.{row_note, row_notes, here_of, Place, place, turn, stack_of, place_in, passed, Low, listed, told}
+use Rattle.flattening.specs.Scope.{row_note, row_notes, here_of, Place, place, leads_to, stack_of, place_in, passed, Low, listed, told}
 use Rattle.flattening.specs.declared.numbering.Left.{Left}
 use Rattle.flattening.specs.declared.numbering.NoOpenEnd.{NoOpenEnd}
 use Rattle.flattening.specs.declared.numbering.Numbering.{Numbering}
@@ -67,15 +67,15 @@ gone : ℕ → ℕ → Option Place → List ℕ → List Note → Numbered
 gone p h None seen ns = stray p
 gone p h (Some s) seen ns = named h (number (suc p) s.body s.brackets s.around (enter h seen) ns)
 
-number_turn : (p b m : ℕ) (st : List (ℕ × ℕ)) (seen : List ℕ) (x : Note) (ns : List Note)
-    → number p b m st seen (x ∷ ns) ≡ gone p (here x b seen) (turn x (here x b seen) b m st) seen ns
-unfolding number turn here gone
-number_turn p b m st seen enters ns = refl
-number_turn p b m st seen opens ns = refl
-number_turn p b zero [] seen closes ns = refl
-number_turn p b zero (q ∷ st) seen closes ns = refl
-number_turn p b (suc m) st seen closes ns = refl
-number_turn p b m st seen stays ns = refl
+number_leads : (p b m : ℕ) (st : List (ℕ × ℕ)) (seen : List ℕ) (x : Note) (ns : List Note)
+    → number p b m st seen (x ∷ ns) ≡ gone p (here x b seen) (leads_to x (here x b seen) b m st) seen ns
+unfolding number leads_to here gone
+number_leads p b m st seen enters ns = refl
+number_leads p b m st seen opens ns = refl
+number_leads p b zero [] seen closes ns = refl
+number_leads p b zero (q ∷ st) seen closes ns = refl
+number_leads p b (suc m) st seen closes ns = refl
+number_leads p b m st seen stays ns = refl
 
 -- it is what the code computes
 here_lem : (k b n : ℕ) (ts : List Bool) → n ≡ length (listed 0 ts) → here_of k b (get_or ts (b + 1) false) n ≡ here (row_note k) b (listed 0 ts)
@@ -154,29 +154,29 @@ module _ (ks owner : List ℕ) (seen : List Bool) (s : Scope) (n i : ℕ) (c : S
     here_is = eh ∙ here_lem k s.body n seen c.counted
 
     -- the numbering of the rest, from this op on
-    from_here : after (take i owner) (gone i h' (turn (row_note k) h' s.body s.brackets (stack_of s.depth s.around)) (listed 0 seen) (drop (suc i) (row_notes ks))) ≡ number 0 0 0 [] [] (row_notes ks)
+    from_here : after (take i owner) (gone i h' (leads_to (row_note k) h' s.body s.brackets (stack_of s.depth s.around)) (listed 0 seen) (drop (suc i) (row_notes ks))) ≡ number 0 0 0 [] [] (row_notes ks)
     from_here =
-        let e = number_turn i s.body s.brackets (stack_of s.depth s.around) (listed 0 seen) (row_note k) (drop (suc i) (row_notes ks)) in
+        let e = number_leads i s.body s.brackets (stack_of s.depth s.around) (listed 0 seen) (row_note k) (drop (suc i) (row_notes ks)) in
         let now : drop i (row_notes ks) ≡ row_note k ∷ drop (suc i) (row_notes ks) = notes_at ks i h ∙ ap (λ (j : ℕ). row_note j ∷ drop (suc i) (row_notes ks)) (sym ek) in
         rw (here_is, ← e, ← now) c.rest
 
     pub stray_end_lem : (o : Option (Unit {0})) (s' : Scope) (x : Result Numbering NoOpenEnd) (j : ℕ)
-        → passed o s' ≡ turn (row_note k) h' s.body s.brackets (stack_of s.depth s.around) → o ≡ None → x ≡ Err (record { op = i }) → told x j ≡ number 0 0 0 [] [] (row_notes ks)
+        → passed o s' ≡ leads_to (row_note k) h' s.body s.brackets (stack_of s.depth s.around) → o ≡ None → x ≡ Err (record { op = i }) → told x j ≡ number 0 0 0 [] [] (row_notes ks)
     unfolding gone
     stray_end_lem o s' x j t eo ex =
-        let e : None ≡ turn (row_note k) h' s.body s.brackets (stack_of s.depth s.around) = rw eo at t in
+        let e : None ≡ leads_to (row_note k) h' s.body s.brackets (stack_of s.depth s.around) = rw eo at t in
         rw ex (sym (after_stray (take i owner) i) ∙ rw (← e) at from_here)
 
     here_fits : h' ≤ i + 1
     here_fits = omega (arith, here_low k s.body n i (get_or seen (s.body + 1) false) c.low.body c.few, eh)
 
     pub next : length ks ≤ 4096 → (o : Option (Unit {0})) (s' : Scope) (u : Unit {0}) (new : ℕ)
-        → passed o s' ≡ turn (row_note k) h' s.body s.brackets (stack_of s.depth s.around) → o ≡ Some u
+        → passed o s' ≡ leads_to (row_note k) h' s.body s.brackets (stack_of s.depth s.around) → o ≡ Some u
         → ((j : ℕ) → Low j s → h' ≤ j + 1 → Low (j + 1) s') → new ≡ bool_byte (not (get_or seen h' false))
         → Scoped ks (set owner i h') (set seen h' true) s' (n + new) (i + 1)
     unfolding gone
     next small o s' u new t eo l en =
-        let e : Some (place_in s') ≡ turn (row_note k) h' s.body s.brackets (stack_of s.depth s.around) = rw eo at t in
+        let e : Some (place_in s') ≡ leads_to (row_note k) h' s.body s.brackets (stack_of s.depth s.around) = rw eo at t in
         let q : new ≡ cond (get_or seen h' false) 0 1 = en ∙ flag_byte (get_or seen h' false) in
         let f = here_fits in
         let hs : h' < length seen = omega (arith, c.flags) in

@@ -36,13 +36,13 @@ abbrev pub place : ℕ → ℕ → List (ℕ × ℕ) → Place
 place b m st = record { body = b; brackets = m; around = st }
 
 -- where an op of the body h leads to; nowhere at an End with no open bracket
-unfoldable pub turn : Note → ℕ → ℕ → ℕ → List (ℕ × ℕ) → Option Place
-turn enters h b m st = Some (place h 0 ((b, m) ∷ st))
-turn opens h b m st = Some (place b (suc m) st)
-turn closes h b zero [] = None
-turn closes h b zero (q ∷ st) = Some (place q.0 q.1 st)
-turn closes h b (suc m) st = Some (place b m st)
-turn stays h b m st = Some (place b m st)
+unfoldable pub leads_to : Note → ℕ → ℕ → ℕ → List (ℕ × ℕ) → Option Place
+leads_to enters h b m st = Some (place h 0 ((b, m) ∷ st))
+leads_to opens h b m st = Some (place b (suc m) st)
+leads_to closes h b zero [] = None
+leads_to closes h b zero (q ∷ st) = Some (place q.0 q.1 st)
+leads_to closes h b (suc m) st = Some (place b m st)
+leads_to stays h b m st = Some (place b m st)
 
 -- the first d of the bodies in an array, the last of them first
 abbrev pub stack_of : ℕ → List Left → List (ℕ × ℕ)

@@ -19,7 +19,9 @@ pub struct Copied {
 
 // The records of one body's ops, to byte `at` of `out`.
 pub fn copy_body(bytes: &[u8], owner: &[u16], number: usize, out: &mut [u8], at: usize) -> Copied
-    requires { ((patch_of bytes.now).number ≡ 0) × ((length owner.now ≡ length (ops_in bytes.now)) × (at + length (encode_all (body number owner.now (ops_in bytes.now))) ≤ length out.old)) }
+    requires good { (patch_of bytes.now).number ≡ 0 }
+    requires owned { length owner.now ≡ length (ops_in bytes.now) }
+    requires room { at + length (encode_all (body number owner.now (ops_in bytes.now))) ≤ length out.old }
     ensures next_value { result.next ≡ at + length (encode_all (body number owner.now (ops_in bytes.now))) }
     ensures ops_value { result.ops ≡ length (body number owner.now (ops_in bytes.now)) }
     ensures out_after { out.new ≡ placed out.old at (encode_all (body number owner.now (ops_in bytes.now))) }
@@ -41,7 +43,8 @@ pub fn copy_body(bytes: &[u8], owner: &[u16], number: usize, out: &mut [u8], at:
     Copied { next, ops }
 }
 
-// The functions' bodies in rising number, each with its entry, then main; how many entries there are.
+// The functions' bodies in rising number, each with its entry, then main; how many entries there are. The lists are lent one by one, as callers lend
+// them to `flatten_numbers`.
 pub fn write_bodies(
     bytes: &[u8],
     owner: &[u16],

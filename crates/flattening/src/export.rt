@@ -30,7 +30,7 @@ impl From<Result<Flattened, FlattenError>> for Report {
     }
 }
 
-// `flatten`, with a report as its answer.
+// `flatten`, with a report as its answer. The archive's call of this name, in `linked`, hands it on: an archive has the exports of its own crate alone.
 #[unsafe(no_mangle)]
 pub extern "C" fn feltcairn_flatten(bytes: &[u8], out: &mut [u8], bodies: &mut [Body]) -> Report
     ensures { (result ≡ report_of (flatten_to bytes.now out.old bodies.old).answer)

@@ -8,7 +8,7 @@ use crate::numbers::flatten_numbers;
 use answers::flatten::{FlattenError, Flattened, bodies_of};
 use patch_reader::reader::Read;
 
-// The numbers, first ops and op counts of entries.
+// The numbers, first ops and op counts of entries, side by side as `flatten_numbers` fills them.
 #[derive(Drop)]
 struct Columns {
     numbers: [u32; Read::MARKS],

@@ -3,7 +3,7 @@ ghost use Rattle.std.specs.Prelude.{◌≡◌, [], false, ℕ, ◌+◌, ◌≤�
 ghost use Rattle.basics.specs.Limits.{most_ops};
 ghost use Rattle.answers.specs.declared.flatten.FlattenError.TheVariants.{NoOpenEnd as no_open_end};
 ghost use Rattle.flattening.specs.Flatten.{number};
-ghost use Rattle.flattening.specs.Scope.{here_of, row_note, turn, place, stack_of, place_in, passed, Low, row_notes, most_bodies, listed, told};
+ghost use Rattle.flattening.specs.Scope.{here_of, row_note, leads_to, place, stack_of, place_in, passed, Low, row_notes, most_bodies, listed, told};
 
 use answers::flatten::FlattenError;
 use kind_table::bracket;
@@ -37,7 +37,7 @@ struct Left {
     brackets: u16,
 }
 
-// The open body and its open brackets, and the bodies around it, the innermost last.
+// The open body and its open brackets, and the bodies around it, the innermost last: the first `depth` of an array, since memory is fixed.
 #[derive(Drop)]
 struct Scope {
     body: usize,
@@ -75,10 +75,10 @@ impl Scope {
     }
 
     // Past an op of row k in the body `here`; nowhere at an End with no open bracket.
-    #[tactic(auto, unfolding(crate::specs::Scope::row_note, crate::specs::Scope::turn))]
+    #[tactic(auto, unfolding(crate::specs::Scope::row_note, crate::specs::Scope::leads_to))]
     fn pass(&mut self, k: usize, here: usize) -> Option<()>
         requires { Low most_ops self.old }
-        ensures value { passed result self.new ≡ turn (row_note k) here self.old.body self.old.brackets (stack_of self.old.depth self.old.around) }
+        ensures value { passed result self.new ≡ leads_to (row_note k) here self.old.body self.old.brackets (stack_of self.old.depth self.old.around) }
         ensures low { (i : ℕ) → Low i self.old → here ≤ i + 1 → Low (i + 1) self.new }
     {
         match k {

@@ -17,7 +17,7 @@ pub fn count_marks(rows: &[u8]) -> usize
 }
 
 // Flattens a patch: each function's own ops, then main. An entry of each function's body goes to the three lists: its number, its first op
-// and its op count.
+// and its op count. They are three slices as C lends them, to `feltcairn_flatten_numbers`.
 pub fn flatten_numbers(
     bytes: &[u8],
     out: &mut [u8],

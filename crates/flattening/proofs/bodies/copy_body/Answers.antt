@@ -4,13 +4,13 @@ use Rattle.flattening.proofs.Copying.{begin, head_fits, size_fits, room_here, ov
 use Rattle.flattening.proofs.bodies.copy_body.Goals as goal
 
 pub loop-mine-init : goal.loop-mine-init
-loop-mine-init c = begin _ _ _ _ _ c.requires.0 (λ i. omega (arith, c.type_inv.bytes i))
+loop-mine-init c = begin _ _ _ _ _ c.requires.good (λ i. omega (arith, c.type_inv.bytes i))
 
 pub u32_at-size-requires : goal.u32_at-size-requires
 u32_at-size-requires c = search head_fits
 
 pub overflow_add-from : goal.overflow_add-from
-overflow_add-from c = omega (arith, size_fits _ _ _ _ _ _ _ _ _ _ c.loop-mine.invariant c.requires.0 c.requires.1.0 c.loop-mine-test.true _ c.u32_at-size.ensures.0)
+overflow_add-from c = omega (arith, size_fits _ _ _ _ _ _ _ _ _ _ c.loop-mine.invariant c.requires.good c.requires.owned c.loop-mine-test.true _ c.u32_at-size.ensures.0)
 
 pub loop-mine-preserved-then-from-number : goal.loop-mine-preserved-then-from-number
 loop-mine-preserved-then-from-number c = search over

@@ -20,8 +20,8 @@ loop-b-init c = search begin
 pub loop-b-preserved-then-not-seen-b : goal.loop-b-preserved-then-not-seen-b
 loop-b-preserved-then-not-seen-b c = search over
 
-pub copy_body-copied-requires : goal.copy_body-copied-requires
-copy_body-copied-requires c = search bytes_fit
+pub copy_body-copied-requires-clause-room : goal.copy_body-copied-requires-clause-room
+copy_body-copied-requires-clause-room c = search bytes_fit
 
 pub bounds-numbers-n : goal.bounds-numbers-n
 bounds-numbers-n c = omega (arith, fits (goal.at.bounds-numbers-n c).After-copy_body-copied)
@@ -41,8 +41,8 @@ overflow_add-first c = omega (arith, few (goal.at.overflow_add-first c).After-co
 pub loop-b-preserved : goal.loop-b-preserved
 loop-b-preserved c = search on
 
-pub copy_body-requires : goal.copy_body-requires
-copy_body-requires c = search main_fits
+pub copy_body-requires-clause-room : goal.copy_body-requires-clause-room
+copy_body-requires-clause-room c = search main_fits
 
 pub returns : goal.returns
 returns c = record {
