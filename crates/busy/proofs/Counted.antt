@@ -8,7 +8,6 @@ use lib.Dec.{leb}
 use lib.ListN.{length, get_or, replicate, length-set, length-replicate}
 use lib.Seq.{get_or-set_other}
 use borrow.Author.Tests.{leb-false}
-use Rattle.basics.proofs.Clash.{clash}
 use Rattle.basics.proofs.Tests.{by_case, or_left, or_right}
 use Rattle.ops.specs.Syntax.{Op}
 use Rattle.machine_model.specs.State.{State, Given}
@@ -33,7 +32,7 @@ zeros_add_up os =
 -- one that is made finds an op, and no comment
 module _ (g : Given) (s t : State) (e : step g s ≡ next t) where
   not_over : (s.halted || leb (length g.ops) s.at) ≡ false
-  not_over = by_case (s.halted || leb (length g.ops) s.at) (λ h. clash (let z = step_over g s h in cc)) (λ h. h)
+  not_over = by_case (s.halted || leb (length g.ops) s.at) (λ h. let z = step_over g s h in cc) (λ h. h)
 
   pub op_there : s.at < length g.ops
   op_there = leb-false (length g.ops) s.at (or_right s.halted _ not_over)
@@ -48,7 +47,7 @@ unfolding raised
 raised_adds_up os cs total i a h n l =
     record {
       each = length-set cs i _ ∙ a.each;
-      rest = λ j e. get_or-set_other cs i j _ 0 (λ z. clash (let q : get_or (comments os) j false ≡ false = ap (λ (k : ℕ). get_or (comments os) k false) z ∙ n in cc)) ∙ a.rest j e;
+      rest = λ j e. get_or-set_other cs i j _ 0 (λ z. let q : get_or (comments os) j false ≡ false = ap (λ (k : ℕ). get_or (comments os) k false) z ∙ n in cc) ∙ a.rest j e;
       summed = sum_raised cs i (omega (arith, a.each)) ∙ ap (λ (k : ℕ). k + 1) a.summed;
       within = omega arith;
     }
@@ -84,7 +83,7 @@ module _ (g : Given) (total : ℕ) where
 worked_sum : (bs : List Bool) (cs : List ℕ) → length cs ≡ length bs → ((i : ℕ) → get_or bs i false ≡ true → get_or cs i 0 ≡ 0) → worked bs cs ≡ sum cs
 unfolding sum
 worked_sum [] [] e h = refl
-worked_sum [] (c ∷ cs) e h = clash (cc)
+worked_sum [] (c ∷ cs) e h = (cc)
 worked_sum (b ∷ bs) [] e h = refl
 worked_sum (true ∷ bs) (c ∷ cs) e h =
     let z : c ≡ 0 = h 0 refl in

@@ -13,7 +13,6 @@ use lib.Seq.{drop-cons, get_or-set_same}
 use borrow.Author.Tests.{le-leb, lt-leb, leb-true, leb-false, ltb-true, ne_eqb, eqb-true, eqb-false}
 use Rattle.ops.specs.Syntax.{Bracket}
 use Rattle.ops.specs.Syntax.Bracket.{up, down, mid, flat}
-use Rattle.basics.proofs.Clash.{clash}
 use Rattle.basics.proofs.Tests.{by_case}
 use Rattle.machine_model.specs.Scan.{to_end, to_open}
 use Rattle.machine_model.proofs.Scans.{end_below}
@@ -226,7 +225,7 @@ module _ (ks : List ℕ) (few : length ks ≤ most_ops) where
       lowest = low_as down e (p.top + 1) (rw (add-one p.top) h.lowest);
       ends = framed_as to_end down e _ _ (framed_down to_end end_counts i (drop (suc i) ms) p.top p.ends h.ends (omega (arith, h.ends_room, h.high)) i refl);
       elses = framed_as to_mid down e _ _ (framed_down to_mid mid_counts i (drop (suc i) ms) p.top p.elses h.elses (omega (arith, h.elses_room, h.high)) nowhere refl);
-      partners = partner_left (sym (far_new ms i (omega (arith, many, here)) (marked down e))) (not_held down e (λ q. clash (cc)));
+      partners = partner_left (sym (far_new ms i (omega (arith, many, here)) (marked down e))) (not_held down e (λ q. (cc)));
       turns = turn_left t;
     }
 
@@ -247,7 +246,7 @@ module _ (ks : List ℕ) (few : length ks ≤ most_ops) where
       lowest = low_as mid e p.top h.lowest;
       ends = framed_as to_end mid e _ _ (framed_past to_end end_counts i (drop (suc i) ms) p.top p.ends h.ends refl);
       elses = framed_as to_mid mid e _ _ (framed_mid to_mid mid_counts i (drop (suc i) ms) p.top p.elses h.elses (omega (arith, h.elses_room, h.high)) i refl);
-      partners = partner_kept (get_or p.ends p.top 0) (top_end ∙ sym (far_mid ms (suc i) i (marked mid e))) (not_held mid e (λ q. clash (cc)));
+      partners = partner_kept (get_or p.ends p.top 0) (top_end ∙ sym (far_mid ms (suc i) i (marked mid e))) (not_held mid e (λ q. (cc)));
       turns = turn_left t;
     }
 
@@ -261,7 +260,7 @@ module _ (ks : List ℕ) (few : length ks ≤ most_ops) where
       lowest = low_as flat e p.top (end_counts.goes i p.top (drop (suc i) ms) ∙ h.lowest);
       ends = framed_as to_end flat e _ _ (framed_flat to_end end_counts i (drop (suc i) ms) p.top p.ends h.ends);
       elses = framed_as to_mid flat e _ _ (framed_flat to_mid mid_counts i (drop (suc i) ms) p.top p.elses h.elses);
-      partners = partner_left (sym (far_flat ms (suc i) i (marked flat e))) (not_held flat e (λ q. clash (cc)));
+      partners = partner_left (sym (far_flat ms (suc i) i (marked flat e))) (not_held flat e (λ q. (cc)));
       turns = turn_left t;
     }
 
@@ -271,7 +270,7 @@ module _ (ks : List ℕ) (few : length ks ≤ most_ops) where
     pair_kept u none q v e =
         rw e
         (partner_kept nowhere (sym (far_up ms (suc i) i (marked up u) ∙ ap place q))
-        (λ j b d o. let z : none ≡ some j = sym q ∙ ends_there ms i j (omega (arith, many)) d o in clash (cc)))
+        (λ j b d o. let z : none ≡ some j = sym q ∙ ends_there ms i j (omega (arith, many)) d o in (cc)))
     pair_kept u (some w) q v e =
         let b : w < length ks = omega (arith, end_below (suc i) 0 (drop (suc i) ms) w q, length-drop (suc i) ms, many, here) in
         let f : leb most_ops w ≡ false = lt-leb most_ops w (omega (arith, b, few)) in
@@ -313,7 +312,7 @@ module _ (ks : List ℕ) (few : length ks ≤ most_ops) where
           ends = framed_as to_end up e _ _ (framed_low to_end end_counts i (drop (suc i) ms) p.top p.ends h.ends p.ends z (ap (λ (x : ℕ). get_or p.ends x 0) (sym z) ∙ top_end ∙ ap place none_here));
           elses = framed_as to_mid up e _ _ (framed_low to_mid mid_counts i (drop (suc i) ms) p.top p.elses h.elses (set p.elses 0 nowhere) z (get_or-set_same p.elses 0 nowhere 0 (omega (arith, h.elses_room))));
           partners = partner_left (sym (far_up ms (suc i) i (marked up e) ∙ ap place none_here))
-              (λ j b d o. let q : none ≡ some j = sym none_here ∙ ends_there ms i j (omega (arith, many)) d o in clash (cc));
+              (λ j b d o. let q : none ≡ some j = sym none_here ∙ ends_there ms i j (omega (arith, many)) d o in (cc));
           turns = t;
         }
 

@@ -11,7 +11,6 @@ use lib.ListN.{length, get_or, take, drop, length-reverse, length-reverse_aux, t
 use lib.Seq.{take-suc, drop-cons, drop-drop, get_or-drop, length-take-le}
 use Rattle.ops.specs.Syntax.{Bracket}
 use Rattle.ops.specs.Syntax.Bracket.{up, down, mid, flat}
-use Rattle.basics.proofs.Clash.{clash}
 use Rattle.machine_model.specs.Scan.{to_end, to_else, to_open}
 use Rattle.partners.specs.Columns.{to_mid}
 
@@ -56,7 +55,7 @@ whole i ms = twice (take i ms) [] (drop i ms) ∙ take-append-drop i ms
 -- where the search forward ends at q, the search back from q comes to the place with the same depth
 there_back : (p d : ℕ) (ms : List Bracket) (q : ℕ) (r : List Bracket) → length r ≡ p → to_end p d ms ≡ some q → to_open 0 (reverse (take q (reverse_aux r ms))) ≡ to_open d r
 unfolding to_end to_open
-there_back p d [] q r l e = clash (cc)
+there_back p d [] q r l e = (cc)
 there_back p d (up ∷ ms) q r l e = there_back (suc p) (suc d) ms q (up ∷ r) (ap suc l) e
 there_back p zero (down ∷ ms) q r l e =
     let n : q ≡ length r = cc in
@@ -68,7 +67,7 @@ there_back p d (flat ∷ ms) q r l e = there_back (suc p) d ms q (flat ∷ r) (a
 -- where the search back ends at i, the search forward from i comes to the place with the same depth
 back_there : (d : ℕ) (r ms : List Bracket) (i : ℕ) → to_open d r ≡ some i → to_end (suc i) 0 (drop (suc i) (reverse_aux r ms)) ≡ to_end (length r) d ms
 unfolding to_end to_open
-back_there d [] ms i e = clash (cc)
+back_there d [] ms i e = (cc)
 back_there zero (up ∷ r) ms i e =
     let n : i ≡ length r = cc in
     ap (λ (x : ℕ). to_end (suc x) 0 (drop (suc x) (reverse_aux r (up ∷ ms)))) n ∙ ap (to_end (suc (length r)) 0) (drop_back (up ∷ r) ms)
@@ -79,7 +78,7 @@ back_there d (flat ∷ r) ms i e = back_there d r (flat ∷ ms) i e
 
 opener : (d : ℕ) (r ms : List Bracket) (i : ℕ) → to_open d r ≡ some i → get_or (reverse_aux r ms) i flat ≡ up
 unfolding to_open
-opener d [] ms i e = clash (cc)
+opener d [] ms i e = (cc)
 opener zero (up ∷ r) ms i e =
     let n : i ≡ length r = cc in
     ap (λ (x : ℕ). get_or (reverse_aux r (up ∷ ms)) x flat) n ∙ at_back r up ms
@@ -90,7 +89,7 @@ opener d (flat ∷ r) ms i e = opener d r (flat ∷ ms) i e
 
 open_below : (d : ℕ) (r : List Bracket) (i : ℕ) → to_open d r ≡ some i → i < length r
 unfolding to_open
-open_below d [] i e = clash (cc)
+open_below d [] i e = (cc)
 open_below zero (up ∷ r) i e = let n : i ≡ length r = cc in omega arith
 open_below (suc d) (up ∷ r) i e = omega (arith, open_below d r i e)
 open_below d (down ∷ r) i e = omega (arith, open_below (suc d) r i e)
@@ -100,7 +99,7 @@ open_below d (flat ∷ r) i e = omega (arith, open_below d r i e)
 -- the End that a search forward finds is one
 ender : (p d : ℕ) (ms : List Bracket) (q : ℕ) (r : List Bracket) → length r ≡ p → to_end p d ms ≡ some q → get_or (reverse_aux r ms) q flat ≡ down
 unfolding to_end
-ender p d [] q r l e = clash (cc)
+ender p d [] q r l e = (cc)
 ender p d (up ∷ ms) q r l e = ender (suc p) (suc d) ms q (up ∷ r) (ap suc l) e
 ender p zero (down ∷ ms) q r l e =
     let n : q ≡ length r = cc in
@@ -111,7 +110,7 @@ ender p d (flat ∷ ms) q r l e = ender (suc p) d ms q (flat ∷ r) (ap suc l) e
 
 end_above : (p d : ℕ) (ms : List Bracket) (q : ℕ) → to_end p d ms ≡ some q → p ≤ q
 unfolding to_end
-end_above p d [] q e = clash (cc)
+end_above p d [] q e = (cc)
 end_above p d (up ∷ ms) q e = omega (arith, end_above (suc p) (suc d) ms q e)
 end_above p zero (down ∷ ms) q e = let n : p ≡ q = cc in omega arith
 end_above p (suc d) (down ∷ ms) q e = omega (arith, end_above (suc p) d ms q e)
@@ -177,9 +176,9 @@ else_or_end p d (flat ∷ ms) = else_or_end (suc p) d ms
 -- an Else that is met lies in the list
 pub mid_below : (p d : ℕ) (ms : List Bracket) (j : ℕ) → to_mid p d ms ≡ some j → j < p + length ms
 unfolding to_mid
-mid_below p d [] j e = clash (cc)
+mid_below p d [] j e = (cc)
 mid_below p d (up ∷ ms) j e = omega (arith, mid_below (suc p) (suc d) ms j e)
-mid_below p zero (down ∷ ms) j e = clash (cc)
+mid_below p zero (down ∷ ms) j e = (cc)
 mid_below p (suc d) (down ∷ ms) j e = omega (arith, mid_below (suc p) d ms j e)
 mid_below p zero (mid ∷ ms) j e = let q : p ≡ j = cc in omega arith
 mid_below p (suc d) (mid ∷ ms) j e = omega (arith, mid_below (suc p) (suc d) ms j e)

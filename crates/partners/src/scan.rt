@@ -51,27 +51,22 @@ impl Frames {
         requires { (i < most_ops) × (self.old.top < 4096) }
         ensures { passed self.new.top self.new.ends self.new.elses partners.new turns.new ≡ pass_of k i self.old.top self.old.ends self.old.elses partners.old turns.old }
     {
-        if row::END < k {
-            return;
-        }
-        if k == row::END {
-            self.top += 1;
-            self.ends[self.top] = i as u16;
-            self.elses[self.top] = NOWHERE;
-            return;
-        }
-        if k == row::ELSE {
-            partners[i] = self.ends[self.top];
-            self.elses[self.top] = i as u16;
-            return;
-        }
-        if k == row::IF {
-            turns[i] = self.elses[self.top];
-            self.leave(i, partners);
-            return;
-        }
-        if k == row::WHILE || k == row::FUNCTION {
-            self.leave(i, partners);
+        match k {
+            row::END => {
+                self.top += 1;
+                self.ends[self.top] = i as u16;
+                self.elses[self.top] = NOWHERE;
+            }
+            row::ELSE => {
+                partners[i] = self.ends[self.top];
+                self.elses[self.top] = i as u16;
+            }
+            row::IF => {
+                turns[i] = self.elses[self.top];
+                self.leave(i, partners);
+            }
+            row::WHILE | row::FUNCTION => self.leave(i, partners),
+            _ => {}
         }
     }
 }

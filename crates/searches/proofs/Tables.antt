@@ -12,7 +12,6 @@ use lib.ListN.{length, get_or, set, take, drop, length-append, take-append-drop,
 use lib.Seq.{take-suc, drop-cons, append_snoc, length-take-le, get_or-take, take-take, set_at}
 use borrow.Author.Tests.{lt-ltb, le-ltb, eq-eqb, ne_eqb, ltb-true, ltb-false, eqb-true, eqb-false}
 use Rattle.basics.specs.Pick.{pick}
-use Rattle.basics.proofs.Clash.{clash}
 use Rattle.basics.proofs.Tests.{by_case}
 use Rattle.byte_fields.specs.Storage.{fill}
 use Rattle.machine_model.specs.Step.{enter}
@@ -252,7 +251,7 @@ module _ (v n : ℕ) (ts : List ℕ) (pre : (n ≤ length ts) × Rising (take n 
     where
       stays : {b a : ℕ} → Known v (take n ts) b a → Ok k ≡ pick (ltb (b + a) n) (Ok b) (Err b) → enter v (take n ts) ≡ take n ts
       stays (stands s g f) e = f
-      stays {b} {a} (belongs s g f) e = clash (let t : ltb (b + a) n ≡ false = le-ltb (b + a) n (omega (arith, whole)) in cc)
+      stays {b} {a} (belongs s g f) e = let t : ltb (b + a) n ≡ false = le-ltb (b + a) n (omega (arith, whole)) in cc
 
   -- v is missing, and belongs at k
   module _ (k : ℕ) (e : Err k ≡ sought_in v (take n ts)) where
@@ -264,7 +263,7 @@ module _ (v n : ℕ) (ts : List ℕ) (pre : (n ≤ length ts) × Rising (take n 
     fits = by here (e ∙ sought_is)
       where
         by : {b a : ℕ} → Known v (take n ts) b a → Err k ≡ pick (ltb (b + a) n) (Ok b) (Err b) → Fits a
-        by {b} {a} (stands s g f) e = clash (let t : ltb (b + a) n ≡ true = lt-ltb (b + a) n (omega (arith, whole)) in cc)
+        by {b} {a} (stands s g f) e = let t : ltb (b + a) n ≡ true = lt-ltb (b + a) n (omega (arith, whole)) in cc
         by {b} {a} (belongs s g f) e =
             let t : ltb (b + a) n ≡ false = le-ltb (b + a) n (omega (arith, whole)) in
             let is : k ≡ b = cc in
