@@ -10,17 +10,13 @@ use lib.ListN.{length, drop, length-append}
 use Rattle.lanes.specs.declared.lane.CellOp.{CellOp}
 use Rattle.lanes.specs.declared.lane.CellOp.TheVariants.{Index, BitwiseNand, BitwiseAnd, BitwiseOr, BitwiseXor, LeftShift, LogicalRightShift, ArithmeticRightShift, And, Or, Add, Sub, Mul, Div, Rem, FloatAdd, FloatSub, FloatMul, FloatDiv, FloatRem}
 use Rattle.lanes.specs.declared.lane.LaneOp.{LaneOp}
-use Rattle.lanes.specs.declared.lane.LaneOp.TheVariants.{BitwiseNot, Not, Neg, Inc, Dec, IsNonNegative, ToInt, ToFloat, FloatNeg, FloatIsNonNegative}
 use Rattle.ops.specs.declared.op.Mode.{Mode}
-use Rattle.ops.specs.declared.op.Mode.TheVariants.{Char, Int, Other}
 use Rattle.ops.specs.declared.op.Binding.{Binding}
-use Rattle.ops.specs.declared.op.Binding.TheVariants as binding
 use Rattle.byte_fields.specs.Bytes.{u16_at, u32_at, u64_at, le16, le32, le64}
 use Rattle.kind_table.specs.Kinds.{shape, left_out, kind_at, index_of}
 use Rattle.kind_table.specs.declared.shape.Shape.TheVariants.{Empty, LaneCount}
 use Rattle.ops.specs.Record.{length_ok, count_of, named_of, last_of}
 use Rattle.ops.specs.Syntax.{Control, Plain, Op, kind_of}
-use Rattle.ops.specs.Syntax.Control.{function, call, ret, while, if, else, end}
 use Rattle.ops.specs.Syntax.Plain.{comment, store, move, swap, locate, offset, deref, refer, cell, lane, get, put, peek, poke, ffi_call, alloc, free}
 use Rattle.ops.specs.Syntax.Sort.{ints, floats}
 use Rattle.ops.specs.Syntax.Op.{control, set, load, plain}
@@ -43,13 +39,7 @@ Known o =
 
 control_known : (c : Control) → Known (control c)
 unfolding index_of kind_at row_at rows mark_of
-control_known function = (refl, refl, refl, refl, λ s p m. refl)
-control_known call = (refl, refl, refl, refl, λ s p m. refl)
-control_known ret = (refl, refl, refl, refl, λ s p m. refl)
-control_known while = (refl, refl, refl, refl, λ s p m. refl)
-control_known if = (refl, refl, refl, refl, λ s p m. refl)
-control_known else = (refl, refl, refl, refl, λ s p m. refl)
-control_known end = (refl, refl, refl, refl, λ s p m. refl)
+control_known c = grind arith
 
 cell_known : (k : CellOp) (n : ℕ) → Known (plain (cell k n))
 unfolding index_of kind_at row_at rows mark_of
@@ -76,16 +66,7 @@ cell_known FloatRem n = (refl, refl, refl, refl, λ s p m. refl)
 
 lane_known : (k : LaneOp) (n : ℕ) → Known (plain (lane k n))
 unfolding index_of kind_at row_at rows mark_of
-lane_known BitwiseNot n = (refl, refl, refl, refl, λ s p m. refl)
-lane_known Not n = (refl, refl, refl, refl, λ s p m. refl)
-lane_known Neg n = (refl, refl, refl, refl, λ s p m. refl)
-lane_known Inc n = (refl, refl, refl, refl, λ s p m. refl)
-lane_known Dec n = (refl, refl, refl, refl, λ s p m. refl)
-lane_known IsNonNegative n = (refl, refl, refl, refl, λ s p m. refl)
-lane_known ToInt n = (refl, refl, refl, refl, λ s p m. refl)
-lane_known ToFloat n = (refl, refl, refl, refl, λ s p m. refl)
-lane_known FloatNeg n = (refl, refl, refl, refl, λ s p m. refl)
-lane_known FloatIsNonNegative n = (refl, refl, refl, refl, λ s p m. refl)
+lane_known k n = grind arith
 
 plain_known : (q : Plain) → Known (plain q)
 unfolding index_of kind_at row_at rows mark_of
@@ -129,31 +110,22 @@ pub record Reads (s : List ℕ) (p : ℕ) (o : Op) : Type 0 where
   pub back : op_with s p (op_count o) o ≡ o
 
 mode_small : (m : Mode) → mode_number m ≤ 3
-mode_small Char = omega arith
-mode_small Int = omega arith
-mode_small Other = omega arith
+mode_small m = grind arith
 
 mode_kept : (m : Mode) → eqb (mode_number m) 2 ≡ false
-mode_kept Char = refl
-mode_kept Int = refl
-mode_kept Other = refl
+mode_kept m = grind arith
 
 mode_back : (m : Mode) → mode_in (mode_number m) ≡ m
-mode_back Char = refl
-mode_back Int = refl
-mode_back Other = refl
+mode_back m = grind arith
 
 binding_small : (b : Binding) → binding_number b ≤ 1
-binding_small binding.SquareRoot = omega arith
-binding_small binding.Add = omega arith
+binding_small b = grind arith
 
 binding_kept : (b : Binding) → eqb (binding_number b) 2 ≡ false
-binding_kept binding.SquareRoot = refl
-binding_kept binding.Add = refl
+binding_kept b = grind arith
 
 binding_back : (b : Binding) → binding_in (binding_number b) ≡ b
-binding_back binding.SquareRoot = refl
-binding_back binding.Add = refl
+binding_back b = grind arith
 
 pub length_bytes : (vs : List ℕ) → length (value_bytes vs) ≡ 8 * length vs
 unfolding value_bytes

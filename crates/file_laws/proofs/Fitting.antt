@@ -16,8 +16,7 @@ use Rattle.ops.specs.Patch.{Item, Loaded, stop, walk, patch_of, mark_of}
 use Rattle.ops.specs.Decode.{row_at, op_with, op_at, ops_of}
 use Rattle.ops.specs.Decode.Patch.{ops, refused}
 use Rattle.ops.specs.Syntax.{Op, Plain}
-use Rattle.ops.specs.Syntax.Plain.{comment, store, move, swap, locate, offset, deref, refer, cell, lane, get, put, peek, poke, ffi_call, alloc, free}
-use Rattle.ops.specs.Syntax.Op.{control, set, load, plain}
+use Rattle.ops.specs.Syntax.Op.{plain}
 use Rattle.ops.specs.Write.{encode_all, Below, Fits, Each, mark_in, marks_in, AllFit}
 use Rattle.ops.specs.declared.refusals.Refusal.TheVariants.{FileTooLong}
 use Rattle.file_laws.proofs.BytesBack.{small16}
@@ -65,33 +64,11 @@ module _ (s : List ℕ) (w : Below 256 s) where
   module _ (p l n : ℕ) (h : p + l ≤ length s) (few : n ≤ 1024) where
     plain_fits : (q : Plain) → length_ok (shape (rule (plain q))) l ≡ true → n ≡ count_of s (shape (rule (plain q))) p l → Fits (op_with s p n (plain q))
     unfolding length_ok count_of
-    plain_fits (comment bs) f c =
-        let b : l ≤ 255 = leb-true l 255 f in
-        let e = length_text s p n (omega arith) in
-        (omega arith, text_below p n)
-    plain_fits (store m) f c = omega arith
-    plain_fits (move v) f c = u64_below p
-    plain_fits (swap m) f c = omega arith
-    plain_fits locate f c = tt
-    plain_fits (offset v m) f c = (u64_below p, omega arith)
-    plain_fits deref f c = tt
-    plain_fits refer f c = tt
-    plain_fits (cell k m) f c = omega arith
-    plain_fits (lane k m) f c = omega arith
-    plain_fits (get m) f c = tt
-    plain_fits (put m) f c = tt
-    plain_fits peek f c = tt
-    plain_fits poke f c = tt
-    plain_fits (ffi_call b) f c = tt
-    plain_fits alloc f c = tt
-    plain_fits free f c = tt
+    plain_fits q f c = grind (arith, leb-true, length_text, text_below, u64_below)
 
     op_fits : (o : Op) → length_ok (shape (rule o)) l ≡ true → n ≡ count_of s (shape (rule o)) p l → Fits (op_with s p n o)
     unfolding length_ok count_of
-    op_fits (control c) f e = tt
-    op_fits (set k vs) f e = (omega (arith, length_values s p n), values_below p n)
-    op_fits (load m) f e = omega arith
-    op_fits (plain q) f e = plain_fits q f e
+    op_fits o f e = grind (arith, length_values, values_below, plain_fits)
 
   pub item_fits : (i : Item) → IsItem s i → Fits (op_at s i)
   unfolding op_at

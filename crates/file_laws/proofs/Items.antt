@@ -43,8 +43,7 @@ module _ (s : List ℕ) where
   Stands l = Every (IsItem s) l.items
 
   full_items : (r : Result Record Fault) (p : ℕ) → Every (IsItem s) (on_full r p).items
-  full_items (Err x) p = tt
-  full_items (Ok w) p = tt
+  full_items r p = grind arith
 
   record_items : (r : Result Record Fault) (p m : ℕ) (rest : ℕ → ℕ → Loaded) → record_at s p ≡ r → ((m p : ℕ) → Every (IsItem s) (rest m p).items) → Every (IsItem s) (on_record r p m rest).items
   record_items (Err x) p m rest e h = tt
@@ -68,8 +67,7 @@ abbrev Few : ℕ → Loaded → Type 0
 Few n l = length l.items ≤ n
 
 few_full : (r : Result Record Fault) (p : ℕ) → Few 0 (on_full r p)
-few_full (Err x) p = omega arith
-few_full (Ok w) p = omega arith
+few_full r p = grind arith
 
 few_record : (left : ℕ) (r : Result Record Fault) (p m : ℕ) (rest : ℕ → ℕ → Loaded) → ((m p : ℕ) → length (rest m p).items ≤ left) → length (on_record r p m rest).items ≤ suc left
 few_record left (Err x) p m rest h = omega arith
@@ -94,8 +92,7 @@ abbrev FewMarks : ℕ → Loaded → Type 0
 FewMarks m l = m + marks_in l.items ≤ 256
 
 marks_full : (r : Result Record Fault) (p m : ℕ) → m ≤ 256 → m + marks_in (on_full r p).items ≤ 256
-marks_full (Err x) p m h = omega arith
-marks_full (Ok w) p m h = omega arith
+marks_full r p m h = grind arith
 
 marks_push : (t : Bool) (k m : ℕ) (x y : Loaded) → m ≤ 256 → ltb 256 (m + mark_of k) ≡ t → marks_in x.items ≡ 0
     → (m + mark_of k ≤ 256 → m + marks_in y.items ≤ 256) → m + marks_in (cond t x y).items ≤ 256

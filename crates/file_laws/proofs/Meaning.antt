@@ -10,9 +10,6 @@ use Rattle.kind_table.specs.declared.shape.Shape.{Shape}
 use Rattle.kind_table.specs.declared.need.Need.{Need}
 use Rattle.ops.specs.Record.{count_of}
 use Rattle.ops.specs.Syntax.{Control, Plain, Op, kind_of, plain_kind, needs, needs_of, plain_needs}
-use Rattle.ops.specs.Syntax.Control.{function, call, ret, while, if, else, end}
-use Rattle.ops.specs.Syntax.Plain.{comment, store, move, swap, locate, offset, deref, refer, cell, lane, get, put, peek, poke, ffi_call, alloc, free}
-use Rattle.ops.specs.Syntax.Op.{control, set, load, plain}
 use Rattle.ops.specs.Patch.{Item, row_in, count_in, need_in, patch_of}
 use Rattle.ops.specs.Decode.{row_at, plain_with, op_with, op_at, plain_count, op_count, ops_of}
 use Rattle.ops.specs.Decode.Patch.{ops, refused}
@@ -36,93 +33,30 @@ refused_are s h = simp (ne_eqb (patch_of s).number 0 h)
 
 module _ (s : List ℕ) (p n : ℕ) where
   plain_kind_lem : (q : Plain) → plain_kind (plain_with s p n q) ≡ plain_kind q
-  plain_kind_lem (comment bs) = refl
-  plain_kind_lem (store m) = refl
-  plain_kind_lem (move v) = refl
-  plain_kind_lem (swap m) = refl
-  plain_kind_lem locate = refl
-  plain_kind_lem (offset v m) = refl
-  plain_kind_lem deref = refl
-  plain_kind_lem refer = refl
-  plain_kind_lem (cell k m) = refl
-  plain_kind_lem (lane k m) = refl
-  plain_kind_lem (get m) = refl
-  plain_kind_lem (put m) = refl
-  plain_kind_lem peek = refl
-  plain_kind_lem poke = refl
-  plain_kind_lem (ffi_call b) = refl
-  plain_kind_lem alloc = refl
-  plain_kind_lem free = refl
+  plain_kind_lem q = grind arith
 
   kind_with : (o : Op) → kind_of (op_with s p n o) ≡ kind_of o
-  kind_with (control c) = refl
-  kind_with (set k vs) = refl
-  kind_with (load m) = refl
-  kind_with (plain q) = plain_kind_lem q
+  kind_with o = grind (arith, plain_kind_lem)
 
   control_need : (c : Control) → needs_of c ≡ lanes_asked (control_rule c) 0
-  control_need function = refl
-  control_need call = refl
-  control_need ret = refl
-  control_need while = refl
-  control_need if = refl
-  control_need else = refl
-  control_need end = refl
+  control_need c = grind arith
 
   plain_need : (q : Plain) → plain_needs (plain_with s p n q) ≡ lanes_asked (need (plain_rule q)) (plain_count (plain_with s p n q))
-  plain_need (comment bs) = refl
-  plain_need (store m) = refl
-  plain_need (move v) = refl
-  plain_need (swap m) = refl
-  plain_need locate = refl
-  plain_need (offset v m) = refl
-  plain_need deref = refl
-  plain_need refer = refl
-  plain_need (cell k m) = refl
-  plain_need (lane k m) = refl
-  plain_need (get m) = refl
-  plain_need (put m) = refl
-  plain_need peek = refl
-  plain_need poke = refl
-  plain_need (ffi_call b) = refl
-  plain_need alloc = refl
-  plain_need free = refl
+  plain_need q = grind arith
 
   need_with : (o : Op) → needs (op_with s p n o) ≡ lanes_asked (need (rule o)) (op_count (op_with s p n o))
-  need_with (control c) = control_need c
-  need_with (set k vs) = refl
-  need_with (load m) = refl
-  need_with (plain q) = plain_need q
+  need_with o = grind (arith, control_need, plain_need)
 
 -- ---- what a payload counts
 
 module _ (s : List ℕ) (p l n : ℕ) (h : p + l ≤ length s) where
   plain_count_lem : (q : Plain) → n ≡ count_of s (shape (plain_rule q)) p l → plain_count (plain_with s p n q) ≡ n
   unfolding count_of
-  plain_count_lem (comment bs) e = length_text s p n (omega (arith, e, h))
-  plain_count_lem (store m) e = sym e
-  plain_count_lem (move v) e = sym e
-  plain_count_lem (swap m) e = sym e
-  plain_count_lem locate e = sym e
-  plain_count_lem (offset v m) e = sym e
-  plain_count_lem deref e = sym e
-  plain_count_lem refer e = sym e
-  plain_count_lem (cell k m) e = sym e
-  plain_count_lem (lane k m) e = sym e
-  plain_count_lem (get m) e = sym e
-  plain_count_lem (put m) e = sym e
-  plain_count_lem peek e = sym e
-  plain_count_lem poke e = sym e
-  plain_count_lem (ffi_call b) e = sym e
-  plain_count_lem alloc e = sym e
-  plain_count_lem free e = sym e
+  plain_count_lem q e = grind (arith, length_text)
 
   count_with : (o : Op) → n ≡ count_of s (shape (rule o)) p l → op_count (op_with s p n o) ≡ n
   unfolding count_of
-  count_with (control c) e = sym e
-  count_with (set k vs) e = length_values s p n
-  count_with (load m) e = sym e
-  count_with (plain q) e = plain_count_lem q e
+  count_with o e = grind (arith, length_values, plain_count_lem)
 
 -- ---- an item and its op
 

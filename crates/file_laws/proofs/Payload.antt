@@ -1,43 +1,25 @@
 -- What the functions that read a payload say of the op: its values, its argument, its text, its mode and its binding are those
 -- that stand in the file. Assumes nothing.
-use mathlib.Core.Path.{◌≡◌, ◌∙◌, refl, sym, ap}
+use mathlib.Core.Path.{◌≡◌, ◌∙◌, sym, ap}
 use mathlib.Core.List.{List}
 use Prim.Native.Nat.{ℕ}
+use native.Mathlib.Omega.{arith}
 use Rattle.ops.specs.declared.op.Mode.{Mode}
 use Rattle.ops.specs.declared.op.Binding.{Binding}
 use Rattle.byte_fields.specs.Bytes.{u16_at, u64_at, values_at, text_at}
 use Rattle.ops.specs.Syntax.{Plain, Sort, Op}
-use Rattle.ops.specs.Syntax.Plain.{comment, store, move, swap, locate, offset, deref, refer, cell, lane, get, put, peek, poke, ffi_call, alloc, free}
-use Rattle.ops.specs.Syntax.Op.{control, set, load, plain}
+use Rattle.ops.specs.Syntax.Plain.{comment, move, offset, get, put, ffi_call}
+use Rattle.ops.specs.Syntax.Op.{set, plain}
 use Rattle.ops.specs.Patch.{Item}
 use Rattle.ops.specs.Decode.{mode_in, binding_in, plain_with, op_with, row_at, op_at}
 
 -- a payload read twice is the payload
 module _ (s : List ℕ) (p n : ℕ) where
   plain_again : (q : Plain) → plain_with s p n (plain_with s p n q) ≡ plain_with s p n q
-  plain_again (comment bs) = refl
-  plain_again (store m) = refl
-  plain_again (move v) = refl
-  plain_again (swap m) = refl
-  plain_again locate = refl
-  plain_again (offset v m) = refl
-  plain_again deref = refl
-  plain_again refer = refl
-  plain_again (cell k m) = refl
-  plain_again (lane k m) = refl
-  plain_again (get m) = refl
-  plain_again (put m) = refl
-  plain_again peek = refl
-  plain_again poke = refl
-  plain_again (ffi_call b) = refl
-  plain_again alloc = refl
-  plain_again free = refl
+  plain_again q = grind arith
 
   op_again : (o : Op) → op_with s p n (op_with s p n o) ≡ op_with s p n o
-  op_again (control c) = refl
-  op_again (set k vs) = refl
-  op_again (load m) = refl
-  op_again (plain q) = ap plain (plain_again q)
+  op_again o = grind (arith, plain_again)
 
 module _ (s : List ℕ) (i : Item) where
   -- an op of the file has the payload that stands at its place

@@ -2,7 +2,7 @@
 use mathlib.Core.Path.{◌≡◌, ◌∙◌, refl, sym, ap, ap₂}
 use mathlib.Core.Bool.{Bool, true, false, cond}
 use mathlib.Core.List.{List, [], ◌++◌, map}
-use Prim.Native.Nat.{ℕ, zero, suc, ◌+◌, ◌-◌, ◌*◌, ◌%◌, ◌<◌, ◌≤◌}
+use Prim.Native.Nat.{ℕ, zero, suc, ◌+◌, ◌-◌, ◌<◌, ◌≤◌}
 use native.Mathlib.Omega.{arith}
 use borrow.Author.Tests.{ltb-false, eqb-true, le-ltb}
 use lib.Dec.{ltb, eqb}
@@ -14,12 +14,11 @@ use Rattle.ops.specs.declared.refusals.Refusal.{Refusal}
 use Rattle.ops.specs.declared.refusals.Refusal.TheVariants.{TooManyOps, TooManyMarks, FileTooLong}
 use Rattle.ops.specs.declared.refusals.Fault.{Fault}
 use Rattle.ops.specs.declared.records.Record.{Record}
-use Rattle.byte_fields.specs.Bytes.{u16_at, u32_at, text_at, le16, le32}
+use Rattle.byte_fields.specs.Bytes.{u16_at, u32_at, text_at, u64_at, le16, le32, le64}
 use Rattle.kind_table.specs.Kinds.{shape, kind_at, index_of}
 use Rattle.ops.specs.Record.{whole, record_at, length_ok, count_of, named_of, last_of}
 use Rattle.ops.specs.Syntax.{Plain, Op, kind_of}
-use Rattle.ops.specs.Syntax.Plain.{comment, store, move, swap, locate, offset, deref, refer, cell, lane, get, put, peek, poke, ffi_call, alloc, free}
-use Rattle.ops.specs.Syntax.Op.{control, set, load, plain}
+use Rattle.ops.specs.Syntax.Op.{plain}
 use Rattle.ops.specs.Patch.{item, Loaded, ending, stop, push, on_record, on_full, walk, patch_of, mark_of}
 use Rattle.ops.specs.Decode.{mode_in, binding_in, row_at, op_with, op_at, ops_of}
 use Rattle.ops.specs.Decode.Patch.{ops, refused}
@@ -34,16 +33,10 @@ use Rattle.file_laws.proofs.Meaning.{means}
 -- ---- the payload
 
 mode_again : (n : ℕ) → n ≤ 3 → eqb n 2 ≡ false → mode_number (mode_in n) ≡ n
-mode_again zero h e = refl
-mode_again (suc zero) h e = refl
-mode_again (suc (suc zero)) h e = let z : ◌≡◌ {A = ℕ} 0 1 = cc in clash z
-mode_again (suc (suc (suc zero))) h e = refl
-mode_again (suc (suc (suc (suc n)))) h e = absurd (omega arith)
+mode_again n h e = grind arith
 
 binding_again : (n : ℕ) → n ≤ 1 → binding_number (binding_in n) ≡ n
-binding_again zero h = refl
-binding_again (suc zero) h = refl
-binding_again (suc (suc n)) h = absurd (omega arith)
+binding_again n h = grind arith
 
 module _ (s : List ℕ) (w : Below 256 s) (p l n : ℕ) (h : p + l ≤ length s) where
   empty : l ≡ 0 → [] ≡ text_at s p l
@@ -58,43 +51,27 @@ module _ (s : List ℕ) (w : Below 256 s) (p l n : ℕ) (h : p + l ≤ length s)
       let q = eqb-true l 2 e in
       ap le16 z ∙ back16 s w p (omega arith) ∙ ap (text_at s p) (sym q)
 
+  eight : eqb l 8 ≡ true → le64 (u64_at s p) ≡ text_at s p l
+  eight e = let q = eqb-true l 8 e in back64 s w p (omega arith) ∙ ap (text_at s p) (sym q)
+
+  twelve : eqb l 12 ≡ true → le64 (u64_at s p) ++ le32 (u32_at s (p + 8)) ≡ text_at s p l
+  twelve e =
+      let q = eqb-true l 12 e in
+      ap₂ (λ (x y : List ℕ). x ++ y) (back64 s w p (omega arith)) (back32 s w (p + 8) (omega arith))
+      ∙ sym (text_add s p 8 4)
+      ∙ ap (text_at s p) (sym q)
+
   plain_again : (q : Plain) → length_ok (shape (rule (plain q))) l ≡ true → n ≡ count_of s (shape (rule (plain q))) p l
       → named_of s (shape (rule (plain q))) p ≤ last_of (shape (rule (plain q))) → eqb (named_of s (shape (rule (plain q))) p) 2 ≡ false
       → payload_of (op_with s p n (plain q)) ≡ text_at s p l
   unfolding length_ok count_of named_of last_of
-  plain_again (comment bs) f c a b = ap (text_at s p) c
-  plain_again (store m) f c a b = four f
-  plain_again (move v) f c a b = let q = eqb-true l 8 f in back64 s w p (omega arith) ∙ ap (text_at s p) (sym q)
-  plain_again (swap m) f c a b = four f
-  plain_again locate f c a b = empty (eqb-true l 0 f)
-  plain_again (offset v m) f c a b =
-      let q = eqb-true l 12 f in
-      ap₂ (λ (x y : List ℕ). x ++ y) (back64 s w p (omega arith)) (back32 s w (p + 8) (omega arith))
-      ∙ sym (text_add s p 8 4)
-      ∙ ap (text_at s p) (sym q)
-  plain_again deref f c a b = empty (eqb-true l 0 f)
-  plain_again refer f c a b = empty (eqb-true l 0 f)
-  plain_again (cell k m) f c a b = four f
-  plain_again (lane k m) f c a b = four f
-  plain_again (get m) f c a b = two _ (mode_again (u16_at s p) a b) f
-  plain_again (put m) f c a b = two _ (mode_again (u16_at s p) a b) f
-  plain_again peek f c a b = empty (eqb-true l 0 f)
-  plain_again poke f c a b = empty (eqb-true l 0 f)
-  plain_again (ffi_call k) f c a b = two _ (binding_again (u16_at s p) a) f
-  plain_again alloc f c a b = empty (eqb-true l 0 f)
-  plain_again free f c a b = empty (eqb-true l 0 f)
+  plain_again q f c a b = grind (arith, eqb-true, four, empty, eight, two, mode_again, binding_again, twelve)
 
   payload_again : (o : Op) → length_ok (shape (rule o)) l ≡ true → n ≡ count_of s (shape (rule o)) p l
       → named_of s (shape (rule o)) p ≤ last_of (shape (rule o)) → eqb (named_of s (shape (rule o)) p) 2 ≡ false
       → payload_of (op_with s p n o) ≡ text_at s p l
   unfolding length_ok count_of
-  payload_again (control c) f q a b = empty (eqb-true l 0 f)
-  payload_again (set k vs) f q a b =
-      let e = eqb-true (l % 8) 0 f in
-      let z : 8 * n ≡ l = omega arith in
-      back_values s w n p (omega arith) ∙ ap (text_at s p) z
-  payload_again (load m) f q a b = four f
-  payload_again (plain q) f c a b = plain_again q f c a b
+  payload_again o f q a b = grind (arith, eqb-true, back_values, four, empty, plain_again)
 
 -- ---- the kind
 

@@ -1,8 +1,9 @@
 -- The table's columns, in 01's words of the ops: tested at each of the 62 rows by one computation. Assumes nothing.
-use mathlib.Core.Path.{◌≡◌, ◌∙◌, refl, sym, ap}
+use mathlib.Core.Path.{◌≡◌, ◌∙◌, sym, ap}
 use mathlib.Core.Bool.{Bool, true, false, cond, ◌&&◌}
 use mathlib.Core.List.{List, [], ◌∷◌}
 use Prim.Native.Nat.{ℕ, ◌<◌}
+use native.Mathlib.Omega.{arith}
 use lib.Dec.{T, leb, eqb, eqb→eq}
 use lib.ListN.{get_or}
 use Rattle.kind_table.specs.Rows as row
@@ -97,26 +98,13 @@ abbrev knowns : List Known
 knowns = AsBefore ∷ OwnCount ∷ OneKnown ∷ []
 
 shape_back : (a : Shape) → get_or shapes (shape_number a) Empty ≡ a
-shape_back Empty = refl
-shape_back Text = refl
-shape_back Values = refl
-shape_back LaneCount = refl
-shape_back Amount = refl
-shape_back AmountAndLanes = refl
-shape_back Mode = refl
-shape_back LeftOut = refl
-shape_back Binding = refl
+shape_back a = grind arith
 
 need_back : (a : Need) → get_or needs (need_number a) NoLane ≡ a
-need_back NoLane = refl
-need_back OneLane = refl
-need_back OwnLanes = refl
-need_back OneInCheck = refl
+need_back a = grind arith
 
 known_back : (a : Known) → get_or knowns (known_number a) AsBefore ≡ a
-known_back AsBefore = refl
-known_back OwnCount = refl
-known_back OneKnown = refl
+known_back a = grind arith
 
 -- two values with one number, which a list has at that place, are the same
 same_by : {A : Type 0} (l : List A) (d : A) (number : A → ℕ) → ((a : A) → get_or l (number a) d ≡ a) → (a b : A) → T (eqb (number a) (number b)) → a ≡ b

@@ -1,5 +1,5 @@
 // The table of the 62 kinds: core kinds 0 to 39 are rows 0 to 39, standard kinds 256 to 277 are rows 40 to 61.
-ghost use Rattle.std.specs.Prelude.{◌≡◌, ◌≤◌};
+ghost use Rattle.std.specs.Prelude.{◌≡◌, ◌<◌, MatchOption};
 ghost use Rattle.kind_table.specs.Kinds.{kind_at, index_of, run_need};
 
 use crate::known::Known;
@@ -112,15 +112,15 @@ pub fn kind_at(k: usize) -> Kind
     KINDS.get(k).copied().unwrap_or(BLANK)
 }
 
-// The row of a kind's number; the row after the last where no kind has it.
+// The row of a kind's number, where a kind has it.
 #[tactic(auto, unfolding(crate::specs::Kinds::index_of))]
-pub fn index_of(number: usize) -> usize
-    ensures { (result ≡ index_of number) × (result ≤ 62) }
+pub fn index_of(number: usize) -> Option<usize>
+    ensures { MatchOption result (index_of number ≡ 62) (λ k. (k ≡ index_of number) × (k < 62)) }
 {
     match number {
-        0..CORE => number,
-        STANDARD..BEYOND => number - ABOVE,
-        _ => COUNT,
+        0..CORE => Some(number),
+        STANDARD..BEYOND => Some(number - ABOVE),
+        _ => None,
     }
 }
 

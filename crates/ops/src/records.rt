@@ -5,7 +5,7 @@ ghost use Rattle.ops.specs.Record.{length_ok, count_of, named_of, last_of, body_
 
 use crate::refusals::{Fault, Refusal};
 use byte_fields::read::{u16_at, u32_at};
-use kind_table::kinds::{COUNT, index_of, kind_at};
+use kind_table::kinds::{index_of, kind_at};
 use kind_table::shape::Shape;
 
 // The last mode, the one that is left out, and the last binding.
@@ -66,7 +66,7 @@ fn count_of(bytes: &[u8], form: Shape, at: usize, len: usize) -> usize
     }
 }
 
-// The mode or the binding that a payload names; 0 where it names none.
+// The mode or the binding that a payload names; 0, which no test below refuses, where it names none.
 #[tactic(auto, unfolding(crate::specs::Record::length_ok, crate::specs::Record::named_of))]
 fn named_of(bytes: &[u8], form: Shape, at: usize, len: usize) -> usize
     requires { (at + len ≤ length bytes.now) × (length_ok form len ≡ true) }
@@ -140,11 +140,9 @@ fn record_at(bytes: &[u8], at: usize) -> Result<Record, Fault>
     if bytes.len() < at + 4 + size {
         return Err(Refusal::CutShort.at(at));
     }
-    let number = u16_at(bytes, at + 4);
-    let k = index_of(number);
-    if COUNT <= k {
+    let Some(k) = index_of(u16_at(bytes, at + 4)) else {
         return Err(Refusal::UnknownKind.at(at));
-    }
+    };
     body_at(bytes, at, k, size - 2)
 }
 

@@ -13,13 +13,12 @@ use Rattle.byte_fields.specs.Storage.{fill}
 use Rattle.byte_fields.proofs.Storage.{fill_snoc}
 use Rattle.kind_table.specs.Kinds.{need, lanes_asked, kind_at, run_need}
 use Rattle.kind_table.specs.declared.need.Need.{Need}
-use Rattle.kind_table.specs.declared.need.Need.TheVariants.{NoLane, OneLane, OwnLanes, OneInCheck}
 use Rattle.ops.specs.Refusals.{number_of, fault}
 use Rattle.ops.specs.Record.{whole, bad, record_at, record_from}
 use Rattle.ops.specs.Patch.{Item, item, row_in, count_in, need_in, payload_in, Loaded, ending, stop, push, walk, patch_of, mark_of}
 use Rattle.patch_reader.specs.Answer.{read_of, unread}
 use Rattle.ops.specs.declared.refusals.Refusal.{Refusal}
-use Rattle.ops.specs.declared.refusals.Refusal.TheVariants.{CutShort, WrongLength, UnknownKind, LeftOut, TooManyLanes, WrongNumber, TooManyOps, TooManyMarks, FileTooLong}
+use Rattle.ops.specs.declared.refusals.Refusal.TheVariants.{TooManyOps, TooManyMarks, FileTooLong}
 use Rattle.ops.specs.declared.refusals.Fault.{Fault}
 use Rattle.ops.specs.declared.records.Record.{Record}
 use Rattle.patch_reader.specs.declared.reader.Read.{Read}
@@ -92,10 +91,7 @@ Said s r₀ r a =
 
 -- a run of an op needs no more lanes than it may count
 asked_few : (a : Need) (n : ℕ) → n ≤ 1024 → lanes_asked a n ≤ 1024
-asked_few NoLane n h = omega arith
-asked_few OneLane n h = omega arith
-asked_few OwnLanes n h = h
-asked_few OneInCheck n h = omega arith
+asked_few a n h = grind arith
 
 pub need_few : (k n r : ℕ) → r ≡ run_need k n → n ≤ 1024 → r ≤ 1024
 unfolding run_need
@@ -104,15 +100,7 @@ need_few k n r e h = rw e (asked_few (need (kind_at k)) n h)
 -- no refusal has number 0
 pub numbered : (r : Refusal) → eqb (number_of r) 0 ≡ false
 unfolding number_of
-numbered CutShort = refl
-numbered WrongLength = refl
-numbered UnknownKind = refl
-numbered LeftOut = refl
-numbered TooManyLanes = refl
-numbered WrongNumber = refl
-numbered TooManyOps = refl
-numbered TooManyMarks = refl
-numbered FileTooLong = refl
+numbered r = grind arith
 
 pub too_long : (s : List ℕ) (r : Read) (a : Unread) → a ≡ unread (fault FileTooLong 0) 0 → 65536 < length s → Said s r r (Err a)
 unfolding patch_of read_of unread fill

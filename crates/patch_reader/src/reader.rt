@@ -85,11 +85,11 @@ pub fn load(bytes: &[u8], read: &mut Read) -> Result<usize, Unread>
     let mut n: usize = 0;
     let mut marks: usize = 0;
     while at < bytes.len() {
-        // By a match: of `map_err` and `?` the proof didn't close, since what a closure over n gives is not seen here.
-        let record = match read_record(bytes, at) {
-            Ok(record) => record,
-            Err(fault) => return Err(Unread::new(fault, n)),
-        };
+        let record = read_record(bytes, at).map_err(
+            |fault: Fault|
+                ensures { result ≡ unread fault n }
+            { Unread::new(fault, n) },
+        )?;
         if Read::OPS <= n {
             return Err(Unread::new(Refusal::TooManyOps.at(at), n));
         }

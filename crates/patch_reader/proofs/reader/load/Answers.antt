@@ -1,20 +1,22 @@
 -- `patch_reader::reader::load` meets its contract. Assumes nothing.
 use Rattle.patch_reader.proofs.Whole.{Tells, tells}
+use Rattle.patch_reader.proofs.Mapped.{mapped_ok, mapped_err}
 use Rattle.patch_reader.proofs.Reading.{need_few, too_long, start, finish_good, finish_bad, advance, found, walk_end, walk_bad, walk_full, walk_marks}
 use Prim.Native.Nat.{ℕ, ◌+◌, ◌-◌}
 use Rattle.ops.specs.Record.{whole, record_at}
 use Rattle.ops.specs.declared.refusals.Fault.{Fault}
 use Rattle.patch_reader.specs.Answer.{unread}
+use Rattle.std.proofs.lemmas.Result.{err_from_is_err_and}
 use mathlib.Core.Path.{◌≡◌, ◌∙◌, sym, ap}
 use native.Mathlib.Omega.{arith}
 use borrow.Author.Rules.{rules}
 use Rattle.patch_reader.proofs.reader.load.Goals as goal
-use Rattle.patch_reader.proofs.reader.load.Goals.{In-Ok}
+use Rattle.patch_reader.proofs.reader.load.Goals.{In_ok-record}
 
-is_whole : (c : In-Ok) → let r = c.in-Ok.record in whole r.row r.body r.len r.count r.next ≡ record_at c.args.bytes.now c.loop-at.at
-is_whole c = found c.loop-at.invariant _ _ c.read_record.ensures c.in-Ok.is
+is_whole : (c : In_ok-record) → let r = c.in_ok-record.record in whole r.row r.body r.len r.count r.next ≡ record_at c.args.bytes.now c.loop-at.at
+is_whole c = found c.loop-at.invariant _ _ c.read_record.ensures (mapped_ok _ _ _ c.map_err.ensures.cases _ c.in_ok-record.was)
 
-says : (c : In-Ok) → let r = c.in-Ok.record in Tells c.args.bytes.now c.loop-at.at r.row r.body r.len r.count r.next
+says : (c : In_ok-record) → let r = c.in_ok-record.record in Tells c.args.bytes.now c.loop-at.at r.row r.body r.len r.count r.next
 says c = tells _ _ _ _ _ _ _ (sym (is_whole c))
 
 pub returns-then-bytes-gt-FILE : goal.returns-then-bytes-gt-FILE
@@ -23,44 +25,46 @@ returns-then-bytes-gt-FILE c = too_long _ _ _ (c.new.ensures ∙ ap (λ (f : Fau
 pub loop-at-init : goal.loop-at-init
 loop-at-init c = start _ _ c.if-bytes-gt-FILE.false
 
-pub returns-in-Err : goal.returns-in-Err
-returns-in-Err c =
+pub returns-in_err-record : goal.returns-in_err-record
+returns-in_err-record c =
     let l = c.loop-at in
-    let f = found l.invariant _ _ c.read_record.ensures c.in-Err.is in
-    finish_bad l.invariant _ _ _ c.new-in-Err.ensures (walk_bad _ l.marks _ (4096 - l.n) _ _ c.loop-at-test.true f)
+    let m = mapped_err _ _ _ c.map_err.ensures.cases _ c.in_err-record.was in
+    let f = found l.invariant _ _ c.read_record.ensures m.1.0 in
+    let p = err_from_is_err_and c.from_residual.result c.from_residual.ensures.1 in
+    rw (p.1, p.2) (finish_bad l.invariant _ _ _ m.1.1 (walk_bad _ l.marks _ (4096 - l.n) _ _ c.loop-at-test.true f))
 
 pub returns-then-n-ge-OPS : goal.returns-then-n-ge-OPS
 returns-then-n-ge-OPS c =
-    let w = is_whole (goal.at.returns-then-n-ge-OPS c).In-Ok in
+    let w = is_whole (goal.at.returns-then-n-ge-OPS c).In_ok-record in
     finish_bad c.loop-at.invariant _ _ _ (c.new-then-n-ge-OPS.ensures ∙ ap (λ (f : Fault). unread f c.loop-at.n) c.at-then-n-ge-OPS.ensures)
     (walk_full _ _ _ _ _ _ _ _ _ c.loop-at-test.true w c.if-n-ge-OPS.true)
 
 pub returns-then-more-gt-MARKS : goal.returns-then-more-gt-MARKS
 returns-then-more-gt-MARKS c =
-    let w = is_whole (goal.at.returns-then-more-gt-MARKS c).In-Ok in
+    let w = is_whole (goal.at.returns-then-more-gt-MARKS c).In_ok-record in
     let h = rw c.mark_of.ensures.0 at c.if-more-gt-MARKS.true in
     finish_bad c.loop-at.invariant _ _ _ (c.new-then-more-gt-MARKS.ensures ∙ ap (λ (f : Fault). unread f c.loop-at.n) c.at-then-more-gt-MARKS.ensures)
     (walk_marks _ _ _ _ _ _ _ _ _ c.loop-at-test.true w c.if-n-ge-OPS.false h)
 
 pub overflow_cast-read : goal.overflow_cast-read
-overflow_cast-read c = omega (arith, (says (goal.at.overflow_cast-read c).In-Ok).small)
+overflow_cast-read c = omega (arith, (says (goal.at.overflow_cast-read c).In_ok-record).small)
 
 pub overflow_cast-read-in-loop-at : goal.overflow_cast-read-in-loop-at
-overflow_cast-read-in-loop-at c = omega (arith, (says (goal.at.overflow_cast-read-in-loop-at c).In-Ok).few)
+overflow_cast-read-in-loop-at c = omega (arith, (says (goal.at.overflow_cast-read-in-loop-at c).In_ok-record).few)
 
 pub overflow_cast-read-in-loop-at-2 : goal.overflow_cast-read-in-loop-at-2
-overflow_cast-read-in-loop-at-2 c = omega (arith, need_few _ _ _ c.run_need-need.ensures (says (goal.at.overflow_cast-read-in-loop-at-2 c).In-Ok).few)
+overflow_cast-read-in-loop-at-2 c = omega (arith, need_few _ _ _ c.run_need-need.ensures (says (goal.at.overflow_cast-read-in-loop-at-2 c).In_ok-record).few)
 
 pub overflow_cast-read-in-loop-at-3 : goal.overflow_cast-read-in-loop-at-3
-overflow_cast-read-in-loop-at-3 c = omega (arith, says (goal.at.overflow_cast-read-in-loop-at-3 c).In-Ok, c.loop-at.invariant.short)
+overflow_cast-read-in-loop-at-3 c = omega (arith, says (goal.at.overflow_cast-read-in-loop-at-3 c).In_ok-record, c.loop-at.invariant.short)
 
 pub loop-at-smaller : goal.loop-at-smaller
-loop-at-smaller c = omega (arith, says (goal.at.loop-at-smaller c).In-Ok)
+loop-at-smaller c = omega (arith, says (goal.at.loop-at-smaller c).In_ok-record)
 
 pub loop-at-preserved : goal.loop-at-preserved
 loop-at-preserved c =
     let more = ap (λ (j : ℕ). c.loop-at.marks + j) c.mark_of.ensures.0 in
-    advance c.loop-at.invariant _ _ _ _ _ _ _ c.loop-at-test.true (is_whole (goal.at.loop-at-preserved c).In-Ok) (omega arith) c.if-more-gt-MARKS.false c.run_need-need.ensures more
+    advance c.loop-at.invariant _ _ _ _ _ _ _ c.loop-at-test.true (is_whole (goal.at.loop-at-preserved c).In_ok-record) (omega arith) c.if-more-gt-MARKS.false c.run_need-need.ensures more
     (search rules) (search rules) (search rules) (search rules)
 
 pub returns : goal.returns
