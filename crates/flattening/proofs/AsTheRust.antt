@@ -12,7 +12,7 @@ use Rattle.basics.proofs.Clash.{clash}
 use Rattle.ops.specs.Syntax.{Op}
 use Rattle.machine_model.specs.Step.{enter}
 use Rattle.machine_model.specs.Formed.{Each, Rising}
-use Rattle.machine_model.proofs.Each.{each_to}
+use Rattle.machine_model.proofs.Each.{each_end, each_to}
 use Rattle.machine_model.proofs.Table.{each_enter, rising_enter}
 use Rattle.flattening.specs.Flatten.{Note, note, notes, Numbered, named, has, fresh, number, body, bodies, gathered, others, laid, flatten}
 use Rattle.flattening.specs.declared.body.Body.{Body}
@@ -300,16 +300,11 @@ record Good (b : ℕ) (st : List (ℕ × ℕ)) (seen cs : List ℕ) (ks : List O
   low : Each (λ k. k ≤ suc (length seen)) seen
   within : Within (suc (length seen)) b st
 
-each_snoc : (P : ℕ → Type 0) (xs : List ℕ) (y : ℕ) → Each P xs → P y → Each P (xs ++ (y ∷ []))
-each_snoc P [] y a h = (h, tt)
-each_snoc P (x ∷ xs) y a h = (a.0, each_snoc P xs y a.1 h)
-
--- an op of the body k, after which b is the body
 good_on : (a k b : ℕ) (rt st : List (ℕ × ℕ)) (seen cs : List ℕ) (o : Op) (ks : List Op) → Good a rt seen cs ks → k ≤ suc (length (enter k seen))
     → Within (suc (length (enter k seen))) b st → Good b st (enter k seen) (cs ++ (k ∷ [])) (ks ++ (o ∷ []))
 good_on a k b rt st seen cs o ks g h w = record {
   rising = rising_enter k seen g.rising;
-  met = each_snoc (λ c. has c (enter k seen) ≡ true) cs k (each_to (λ c. has c seen ≡ true) (λ c. has c (enter k seen) ≡ true) (λ c e. has_more k c seen e) cs g.met) (has_self k seen);
+  met = each_end (λ c. has c (enter k seen) ≡ true) cs k (each_to (λ c. has c seen ≡ true) (λ c. has c (enter k seen) ≡ true) (λ c e. has_more k c seen e) cs g.met) (has_self k seen);
   even = omega (arith, g.even, length-append cs (k ∷ []), length-append ks (o ∷ []));
   low = each_enter (λ c. c ≤ suc (length (enter k seen))) k seen h
       (each_to (λ c. c ≤ suc (length seen)) (λ c. c ≤ suc (length (enter k seen))) (λ c e. omega (arith, e, longer k seen)) seen g.low);

@@ -3,11 +3,10 @@ use Prim.Native.Nat.{ℕ, suc, ◌+◌, ◌%◌, ◌≤◌, ◌<◌}
 use native.Mathlib.Numerals.{add-one}
 use native.Mathlib.Omega.{arith}
 use mathlib.Core.Path.{◌≡◌, refl, ap, sym, ◌∙◌}
-use mathlib.Core.Bool.{Bool, true, false, cond}
-use mathlib.Core.List.{List, [], ◌∷◌, ◌++◌, append_assoc, append-nil}
-use lib.Dec.{eqb}
+use mathlib.Core.List.{List, [], ◌∷◌, ◌++◌, append-nil}
+use borrow.Author.Tests.{eq-eqb, ne_eqb}
 use lib.ListN.{length, get_or, take, drop, length-append, drop_of_length-le}
-use lib.Seq.{drop-cons, take-append_seam}
+use lib.Seq.{append_snoc, drop-cons, take-append_seam}
 use Rattle.byte_fields.specs.Bytes.{u32_at, text_at}
 use Rattle.ops.specs.Syntax.{Op}
 use Rattle.ops.specs.Syntax.Op.{plain}
@@ -24,7 +23,6 @@ use Rattle.file_laws.proofs.Rewritten.{bytes_back}
 use Rattle.byte_fields.proofs.Storage.{placed_none, placed_then, length_placed}
 use Rattle.file_laws.proofs.Written.{length_encode, encode_append, parts, ends}
 use Rattle.flattening.specs.Flatten.{body}
-use Rattle.flattening.specs.Scope.{part_of}
 use Rattle.flattening.specs.Flattened.{good_ops, ops_in}
 
 -- ---- a good file
@@ -53,46 +51,19 @@ module _ (s : List ℕ) (p : ℕ) (o : Op) (t : List ℕ) (d : drop p s ≡ enco
   unfolding text_at
   text_is = ap (take (length (encode o))) d ∙ take-append_seam (encode o) t
 
--- ---- the part of a body that one op is
+-- ---- one op more, of the body or of another
 
-abbrev mine : ℕ → ℕ → Op → List Op
-mine b c o = cond (eqb b c) (o ∷ []) []
-
-body_split : (b c : ℕ) (cs : List ℕ) (o : Op) (os : List Op) → body b (c ∷ cs) (o ∷ os) ≡ mine b c o ++ body b cs os
+body_mine : (b c : ℕ) (cs : List ℕ) (o : Op) (os : List Op) → b ≡ c → body b (c ∷ cs) (o ∷ os) ≡ o ∷ body b cs os
 unfolding body
-body_split b c cs o os = by (eqb b c)
-  where
-    by : (x : Bool) → cond x (o ∷ body b cs os) (body b cs os) ≡ cond x (o ∷ []) [] ++ body b cs os
-    by true = refl
-    by false = refl
+body_mine b c cs o os e = rw (eq-eqb b c e) refl
 
-mine_count : (b c : ℕ) (o : Op) → part_of b c 1 ≡ length (mine b c o)
-unfolding part_of
-mine_count b c o = by (eqb b c)
-  where
-    by : (x : Bool) → cond x 1 0 ≡ length (cond x (o ∷ []) [])
-    by true = refl
-    by false = refl
+body_other : (b c : ℕ) (cs : List ℕ) (o : Op) (os : List Op) → (b ≡ c → ⊥) → body b (c ∷ cs) (o ∷ os) ≡ body b cs os
+unfolding body
+body_other b c cs o os e = rw (ne_eqb b c e) refl
 
-mine_bytes : (b c : ℕ) (o : Op) → part_of b c (length (encode o)) ≡ length (encode_all (mine b c o))
-unfolding part_of encode_all
-mine_bytes b c o = by (eqb b c)
-  where
-    by : (x : Bool) → cond x (length (encode o)) 0 ≡ length (encode_all (cond x (o ∷ []) []))
-    by true = ap length (sym (append-nil (encode o)))
-    by false = refl
-
-text_none : (s : List ℕ) (p : ℕ) → text_at s p 0 ≡ []
-unfolding text_at
-text_none s p = refl
-
-mine_text : (s : List ℕ) (p b c : ℕ) (o : Op) → text_at s p (length (encode o)) ≡ encode o → text_at s p (part_of b c (length (encode o))) ≡ encode_all (mine b c o)
-unfolding part_of encode_all
-mine_text s p b c o e = by (eqb b c)
-  where
-    by : (x : Bool) → text_at s p (cond x (length (encode o)) 0) ≡ encode_all (cond x (o ∷ []) [])
-    by true = e ∙ sym (append-nil (encode o))
-    by false = text_none s p
+encode_end : (xs : List Op) (o : Op) → encode_all (xs ++ (o ∷ [])) ≡ encode_all xs ++ encode o
+unfolding encode_all
+encode_end xs o = encode_append xs (o ∷ []) ∙ ap (λ (l : List ℕ). encode_all xs ++ l) (append-nil (encode o))
 
 -- ---- the loop
 
@@ -123,12 +94,9 @@ begin s cs b out at z w = record {
 }
 
 module _ (s cs : List ℕ) (b : ℕ) (out₀ : List ℕ) (at : ℕ) (out : List ℕ) (from next n i : ℕ) (c : Copying s cs b out₀ at out from next n i) where
-  module _ (z : (patch_of s).number ≡ 0) (same : length cs ≡ length (ops_in s)) (h : i < length cs) (room : at + length (encode_all (body b cs (ops_in s))) ≤ length out₀) where
+  module _ (z : (patch_of s).number ≡ 0) (same : length cs ≡ length (ops_in s)) (h : i < length cs) where
     o : Op
     o = get_or (ops_in s) i (plain free)
-
-    k : ℕ
-    k = get_or cs i 0
 
     tail : List Op
     tail = drop (suc i) (ops_in s)
@@ -144,60 +112,81 @@ module _ (s cs : List ℕ) (b : ℕ) (out₀ : List ℕ) (at : ℕ) (out : List 
     pub head_fits : from + 4 ≤ length s
     head_fits = omega (arith, ends o s from (encode_all tail) bytes_at)
 
-    whole_on : body b cs (ops_in s) ≡ (c.acc ++ mine b k o) ++ body b (drop (suc i) cs) tail
-    unfolding k
-    whole_on =
-        c.whole
-        ∙ ap (λ (l : List Op). c.acc ++ l) (rw (drop-cons cs i 0 h, op_at) (body_split b k (drop (suc i) cs) o tail))
-        ∙ sym (append_assoc c.acc (mine b k o) (body b (drop (suc i) cs) tail))
+    module _ (r : ℕ) (es : r ≡ u32_at s from) where
+      abbrev size : ℕ
+      size = r + 4
 
-    module _ (size : ℕ) (es : size ≡ u32_at s from + 4) (m : ℕ) (em : m ≡ get_or cs i 0) (part : ℕ) (ep : part ≡ part_of b m size) where
       size_here : size ≡ length (encode o)
-      size_here = es ∙ size_is s from o (encode_all tail) bytes_at (short s z)
-
-      part_here : part ≡ part_of b k (length (encode o))
-      unfolding k
-      part_here = ep ∙ rw (em, size_here) refl
-
-      part_long : part ≡ length (encode_all (mine b k o))
-      part_long = part_here ∙ mine_bytes b k o
+      size_here = ap (λ (j : ℕ). j + 4) es ∙ size_is s from o (encode_all tail) bytes_at (short s z)
 
       pub size_fits : from + size ≤ length s
       size_fits = omega (arith, ends o s from (encode_all tail) bytes_at, size_here, length_encode o)
 
-      pub part_fits : next + part ≤ length out
-      part_fits =
-          let e : length (encode_all (body b cs (ops_in s))) ≡ length (encode_all c.acc) + length (encode_all (mine b k o)) + length (encode_all (body b (drop (suc i) cs) tail)) =
-          ap (λ (l : List Op). length (encode_all l)) whole_on
-          ∙ encode_length (c.acc ++ mine b k o) (body b (drop (suc i) cs) tail)
-          ∙ ap (λ (j : ℕ). j + length (encode_all (body b (drop (suc i) cs) tail))) (encode_length c.acc (mine b k o)) in
-          omega (arith, c.to, c.long, part_long, e, room)
+      here_on : drop (from + size) s ≡ encode_all tail
+      here_on = ap (λ (j : ℕ). drop (from + j) s) size_here ∙ after s from (encode o) (encode_all tail) bytes_at
 
-      pub on : (one : ℕ) → one ≡ part_of b m 1 → one ≤ 1 → (out' : List ℕ) → out' ≡ placed out next (text_at s from part)
-          → Copying s cs b out₀ at out' (from + size) (next + part) (n + one) (i + 1)
-      unfolding k tail
-      on one e1 l1 out' eo =
-          let f = part_fits in
-          let t : text_at s from part ≡ encode_all (mine b k o) =
-          ap (text_at s from) part_here ∙ mine_text s from b k o (text_is s from o (encode_all tail) bytes_at) in
-          let lm : length (encode_all (c.acc ++ mine b k o)) ≡ length (encode_all c.acc) + part = encode_length c.acc (mine b k o) ∙ ap (λ (j : ℕ). length (encode_all c.acc) + j) (sym part_long) in
-          let w : out' ≡ placed out₀ at (encode_all (c.acc ++ mine b k o)) =
-          eo
-          ∙ ap (placed out next) t
-          ∙ ap (λ (l : List ℕ). placed l next (encode_all (mine b k o))) c.stands
-          ∙ placed_then out₀ at (encode_all c.acc) (encode_all (mine b k o)) next (sym c.to) (omega (arith, c.long))
-          ∙ ap (placed out₀ at) (sym (encode_append c.acc (mine b k o))) in
-          record {
-            acc = c.acc ++ mine b k o;
-            upto = omega arith;
-            whole = rw (add-one i) whole_on;
-            here = rw (add-one i) (ap (λ (j : ℕ). drop (from + j) s) size_here ∙ after s from (encode o) (encode_all tail) bytes_at);
-            stands = w;
-            to = omega (arith, c.to, lm);
-            counts = omega (arith, c.counts, length-append c.acc (mine b k o), mine_count b k o, e1 ∙ ap (λ (j : ℕ). part_of b j 1) em);
-            few = omega (arith, c.few);
-            long = ap length w ∙ length_placed out₀ at (encode_all (c.acc ++ mine b k o)) (omega (arith, f, lm, c.to, c.long));
-          }
+      module _ (m : ℕ) (em : m ≡ get_or cs i 0) where
+        bodies_at : body b (drop i cs) (drop i (ops_in s)) ≡ body b (m ∷ drop (suc i) cs) (o ∷ tail)
+        bodies_at = rw (drop-cons cs i 0 h, op_at, em) refl
+
+        -- an op of another body
+        pub over : (m ≡ b → ⊥) → Copying s cs b out₀ at out (from + size) next n (i + 1)
+        unfolding tail
+        over other = record {
+          acc = c.acc;
+          upto = omega arith;
+          whole = rw (add-one i) (c.whole ∙ ap (λ (l : List Op). c.acc ++ l) (bodies_at ∙ body_other b m (drop (suc i) cs) o tail (λ e. other (sym e))));
+          here = rw (add-one i) here_on;
+          stands = c.stands;
+          to = c.to;
+          counts = c.counts;
+          few = omega (arith, c.few);
+          long = c.long;
+        }
+
+        -- an op of the body
+        module _ (mine : m ≡ b) (room : at + length (encode_all (body b cs (ops_in s))) ≤ length out₀) where
+          whole_on : body b cs (ops_in s) ≡ (c.acc ++ (o ∷ [])) ++ body b (drop (suc i) cs) tail
+          whole_on =
+              c.whole
+              ∙ ap (λ (l : List Op). c.acc ++ l) (bodies_at ∙ body_mine b m (drop (suc i) cs) o tail (sym mine))
+              ∙ sym (append_snoc c.acc o (body b (drop (suc i) cs) tail))
+
+          long_on : length (encode_all (c.acc ++ (o ∷ []))) ≡ length (encode_all c.acc) + size
+          long_on = ap length (encode_end c.acc o) ∙ length-append (encode_all c.acc) (encode o) ∙ ap (λ (j : ℕ). length (encode_all c.acc) + j) (sym size_here)
+
+          pub room_here : next + size ≤ length out
+          room_here =
+              omega (
+                arith,
+                c.to,
+                c.long,
+                long_on,
+                room,
+                ap (λ (l : List Op). length (encode_all l)) whole_on,
+                encode_length (c.acc ++ (o ∷ [])) (body b (drop (suc i) cs) tail),
+              )
+
+          pub on : (out' : List ℕ) → out' ≡ placed out next (text_at s from size) → Copying s cs b out₀ at out' (from + size) (next + size) (n + 1) (i + 1)
+          unfolding tail
+          on out' eo =
+              let w : out' ≡ placed out₀ at (encode_all (c.acc ++ (o ∷ []))) =
+              eo
+              ∙ ap (placed out next) (ap (text_at s from) size_here ∙ text_is s from o (encode_all tail) bytes_at)
+              ∙ ap (λ (l : List ℕ). placed l next (encode o)) c.stands
+              ∙ placed_then out₀ at (encode_all c.acc) (encode o) next (sym c.to) (omega (arith, c.long, room_here))
+              ∙ ap (placed out₀ at) (sym (encode_end c.acc o)) in
+              record {
+                acc = c.acc ++ (o ∷ []);
+                upto = omega arith;
+                whole = rw (add-one i) whole_on;
+                here = rw (add-one i) here_on;
+                stands = w;
+                to = omega (arith, c.to, long_on);
+                counts = omega (arith, c.counts, length-append c.acc (o ∷ []));
+                few = omega (arith, c.few);
+                long = ap length w ∙ length_placed out₀ at (encode_all (c.acc ++ (o ∷ []))) (omega (arith, room_here, long_on, c.to, c.long));
+              }
 
   module _ (same : length cs ≡ length (ops_in s)) (h : length cs ≤ i) where
     all_copied : body b cs (ops_in s) ≡ c.acc

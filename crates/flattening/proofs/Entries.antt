@@ -1,17 +1,18 @@
 -- The caller's list: what the walks of `write_entries` and `flatten` cite, and the laws of `flatten_to`. Assumes nothing.
 use Prim.Native.Nat.{ℕ, zero, suc, ◌+◌, ◌≤◌, ◌<◌}
-use native.Mathlib.Nat.{not-suc-le-zero, le_of_suc-le-suc}
 use native.Mathlib.Numerals.{add-one}
 use native.Mathlib.Omega.{arith}
-use borrow.Author.Tests.{eqb-true, eqb-false, ltb-false, le-ltb}
+use borrow.Author.Tests.{eqb-true, eqb-false, ltb-true, ltb-false, lt-ltb, le-ltb}
 use mathlib.Core.Path.{◌≡◌, refl, ap, sym, ◌∙◌, subst}
 use mathlib.Core.Bool.{Bool, true, false, cond, ◌||◌}
 use mathlib.Core.List.{List, [], ◌∷◌, ◌++◌, map, append_assoc}
 use lib.Dec.{eqb, ltb}
 use lib.ListN.{length, get_or, set, take, drop, replicate, length-append, length-map, length-replicate, take-append-drop}
 use lib.Seq.{append_snoc, drop-cons, set_at, take_at, drop_at, take-append_seam}
+use Rattle.std.proofs.lemmas.List.{take-replicate, drop-map}
+use Rattle.std.specs.Prelude.{Err}
 use Rattle.basics.proofs.Clash.{clash}
-use Rattle.basics.proofs.Tests.{or_right}
+use Rattle.basics.proofs.Tests.{or_right, by_case}
 use Rattle.ops.specs.Syntax.{Op}
 use Rattle.byte_fields.specs.Storage.{fill}
 use Rattle.ops.specs.Decode.{Patch, ops_of}
@@ -20,47 +21,40 @@ use Rattle.ops.specs.Patch.{patch_of}
 use Rattle.ops.specs.Write.{Below, encode_all, marks_in}
 use Rattle.file_laws.proofs.Fitting.{few_marks_in}
 use Rattle.file_laws.proofs.Meaning.{refused_are}
-use Rattle.flattening.specs.Flatten.{notes, Numbered, number, bodies, others, laid, flatten, Flat}
-use Rattle.flattening.specs.Flatten.Numbered.{stray, numbered}
+use Rattle.flattening.specs.Flatten.{notes, number, others, flatten, Flat}
+use Rattle.flattening.specs.Flatten.Numbered.{numbered}
 use Rattle.flattening.specs.Flatten.Flat.{loose, flat}
-use Rattle.answers.specs.Flatten.{bodies_of}
+use Rattle.answers.specs.Flatten.{Flattening, bytes_of, bodies_of}
+use Rattle.answers.specs.Flatten as answers
 use Rattle.flattening.specs.Flattened.{Outcome, outcome, ops_in, number_in, first_in, count_in, written, untouched, too_short, of_flat, of_patch, flatten_of}
 use Rattle.flattening.specs.Entries.{entry, beside, Listing, listing, in_list, flatten_to, room_of, entry_of, entries_of, entry_at, entries_in, over}
 use Rattle.flattening.specs.declared.body.Body.{Body}
-use Rattle.answers.specs.declared.flatten.Flattened.{Flattened}
-use Rattle.answers.specs.declared.flatten.Flattened.TheVariants.{BadFile, NoOpenEnd, NoRoom, Written}
+use Rattle.answers.specs.declared.flatten.FlattenError.{FlattenError}
+use Rattle.answers.specs.declared.flatten.FlattenError.TheVariants.{BadFile, NoOpenEnd, NoRoom}
 use Rattle.flattening.specs.declared.flatten.Columns.{Columns}
-use Rattle.flattening.proofs.FewBodies.{few_bodies, length_bodies}
+use Rattle.flattening.proofs.InOrder.{as_many_entries}
 use Rattle.flattening.proofs.Copying.{is_patch}
 use Rattle.flattening.proofs.FlattenedIsAPatch.{patch_again, Says, bodies_say}
 
--- ---- the columns: what `flatten_columns` lends of its arrays
+-- ---- the columns: what is lent of their arrays
 
 abbrev zeros : ℕ → List ℕ
 zeros n = replicate n 0
 
-take_zeros : (m n : ℕ) → n ≤ m → take n (zeros m) ≡ zeros n
-take_zeros m zero h = refl
-take_zeros zero (suc n) h = absurd (not-suc-le-zero h)
-take_zeros (suc m) (suc n) h = ap (λ (l : List ℕ). 0 ∷ l) (take_zeros m n (le_of_suc-le-suc h))
+part_long : (n : ℕ) → n ≤ 256 → n ≡ length (take n (zeros 256))
+part_long n h = sym (ap length (take-replicate n 256 0 h) ∙ length-replicate n 0)
 
-pub part_long : (n : ℕ) → n ≤ 256 → n ≡ length (take n (zeros 256))
-part_long n h = sym (ap length (take_zeros 256 n h) ∙ length-replicate n 0)
-
-pub columns_are : (s o o' : List ℕ) (a : Flattened) (n k : ℕ) (ns fs cs : List ℕ) → n ≡ k → n ≤ 256
+columns_are : (s o o' : List ℕ) (a : Flattening) (n : ℕ) (ns fs cs : List ℕ) → n ≤ 256
     → length ns ≡ length (take n (zeros 256)) → length fs ≡ length (take n (zeros 256)) → length cs ≡ length (take n (zeros 256))
     → outcome a o' ns fs cs ≡ flatten_of s o (take n (zeros 256)) (take n (zeros 256)) (take n (zeros 256))
-    → outcome a o' (take k (ns ++ drop n (zeros 256))) (take k (fs ++ drop n (zeros 256))) (take k (cs ++ drop n (zeros 256))) ≡ flatten_of s o (zeros k) (zeros k) (zeros k)
-columns_are s o o' a n k ns fs cs en h ln lf lc e = by (drop n (zeros 256))
+    → outcome a o' (take n (ns ++ drop n (zeros 256))) (take n (fs ++ drop n (zeros 256))) (take n (cs ++ drop n (zeros 256))) ≡ flatten_of s o (zeros n) (zeros n) (zeros n)
+columns_are s o o' a n ns fs cs h ln lf lc e = by (drop n (zeros 256))
   where
     p : n ≡ length (take n (zeros 256))
     p = part_long n h
 
-    t : take n (zeros 256) ≡ zeros k
-    t = take_zeros 256 n h ∙ ap zeros en
-
-    by : (z : List ℕ) → outcome a o' (take k (ns ++ z)) (take k (fs ++ z)) (take k (cs ++ z)) ≡ flatten_of s o (zeros k) (zeros k) (zeros k)
-    by z = rw (take_at ns z k (ln ∙ sym p ∙ en), take_at fs z k (lf ∙ sym p ∙ en), take_at cs z k (lc ∙ sym p ∙ en)) (e ∙ ap (λ (l : List ℕ). flatten_of s o l l l) t)
+    by : (z : List ℕ) → outcome a o' (take n (ns ++ z)) (take n (fs ++ z)) (take n (cs ++ z)) ≡ flatten_of s o (zeros n) (zeros n) (zeros n)
+    by z = rw (take_at ns z n (ln ∙ sym p), take_at fs z n (lf ∙ sym p), take_at cs z n (lc ∙ sym p)) (e ∙ ap (λ (l : List ℕ). flatten_of s o l l l) (take-replicate n 256 0 h))
 
 -- ---- the list: one entry after another
 
@@ -101,14 +95,9 @@ beside_append : (bs : List Body) (ns fs cs : List ℕ) → beside (map number_in
 beside_append [] ns fs cs = refl
 beside_append (b ∷ bs) ns fs cs = ap (λ (r : List Body). b ∷ r) (beside_append bs ns fs cs)
 
-drop_map : (f : Body → ℕ) (n : ℕ) (l : List Body) → drop n (map f l) ≡ map f (drop n l)
-drop_map f zero l = refl
-drop_map f (suc n) [] = refl
-drop_map f (suc n) (b ∷ l) = drop_map f n l
-
 fill_column : (f : Body → ℕ) (bs l : List Body) → fill (map f bs) (map f l) ≡ map f bs ++ map f (drop (length bs) l)
 unfolding fill
-fill_column f bs l = ap (λ (k : ℕ). map f bs ++ drop k (map f l)) (length-map bs f) ∙ ap (λ (r : List ℕ). map f bs ++ r) (drop_map f (length bs) l)
+fill_column f bs l = ap (λ (k : ℕ). map f bs ++ drop k (map f l)) (length-map bs f) ∙ ap (λ (r : List ℕ). map f bs ++ r) (drop-map f (length bs) l)
 
 -- the columns of a list, filled with the columns of entries, are the list with the entries over its start
 pub beside_fill : (bs l : List Body) → beside (fill (map number_in bs) (map number_in l)) (fill (map first_in bs) (map first_in l)) (fill (map count_in bs) (map count_in l)) ≡ over bs l
@@ -133,12 +122,7 @@ entries_head (b ∷ bs) ns fs cs =
 -- ---- room
 
 room_short : (n m : ℕ) → m ≤ 256 → ltb (room_of n) m ≡ ltb n m
-unfolding room_of
-room_short n m h = by (ltb n 256) refl
-  where
-    by : (x : Bool) → ltb n 256 ≡ x → ltb (cond x n 256) m ≡ ltb n m
-    by true e = refl
-    by false e = let g : 256 ≤ n = ltb-false n 256 e in le-ltb 256 m h ∙ sym (le-ltb n m (omega arith))
+room_short n m h = by_case (ltb n m) (λ e. let f = ltb-true n m e in lt-ltb (room_of n) m (omega arith) ∙ sym e) (λ e. let f = ltb-false n m e in le-ltb (room_of n) m (omega arith) ∙ sym e)
 
 module _ (s o : List ℕ) (l : List Body) where
   abbrev room : ℕ
@@ -155,17 +139,7 @@ module _ (s o : List ℕ) (l : List Body) where
       let k : Bool = ltb (length (map count_in l)) m in
       ltb-false (length l) m (ap (λ (j : ℕ). ltb j m) (sym (length-map l count_in)) ∙ or_right f k (or_right n (f || k) (or_right x (n || (f || k)) e)))
 
-entries_few : (os gs : List Op) (bs : List Body) → flatten os ≡ flat gs bs → length bs ≤ marks_in os
-unfolding flatten
-entries_few os gs bs e = by (number 0 0 0 [] [] (notes os)) refl e
-  where
-    by : (r : Numbered) → number 0 0 0 [] [] (notes os) ≡ r → laid os r ≡ flat gs bs → length bs ≤ marks_in os
-    by (stray p) q x = clash (cc)
-    by (numbered cs seen) q x =
-        let t : bodies 0 (others seen) cs os ≡ bs = cc in
-        omega (arith, few_bodies os cs seen q, length_bodies 0 (others seen) cs os, ap length t)
-
--- ---- the whole list, from what `flatten_columns` answers and leaves
+-- ---- the whole list, from what flattening into columns answers and leaves
 
 column : (f : Body → ℕ) (bs : List Body) (n : ℕ) (old ns : List ℕ) → take n ns ≡ fill (map f bs) old → ns ≡ map f bs ++ (drop (length (map f bs)) old ++ drop n ns)
 unfolding fill
@@ -175,13 +149,16 @@ column f bs n old ns e =
 entries_are : (bs : List Body) (ns fs cs x y z : List ℕ) → ns ≡ map number_in bs ++ x → fs ≡ map first_in bs ++ y → cs ≡ map count_in bs ++ z → entries_of ns fs cs (length bs) ≡ bs
 entries_are bs ns fs cs x y z e f g = rw (e, f, g) (entries_head bs x y z)
 
-module _ (s o o' : List ℕ) (l : List Body) (c : Columns) (er : c.rows ≡ bodies_of c.answer) where
+module _ (s o o' : List ℕ) (l : List Body) (a : Flattening) (c : Columns) where
+  abbrev pub rows : ℕ
+  rows = bodies_of a
+
   -- the entries fit, and make the list that is due
-  abbrev Makes : Listing → Type 0
-  Makes x = ((c.rows ≤ length l) × (c.rows ≤ 256)) × (listing c.answer o' (over (entries_in c c.rows) l) ≡ x)
+  abbrev pub Makes : Listing → Type 0
+  Makes x = ((rows ≤ length l) × (rows ≤ 256)) × (listing a o' (over (entries_in c rows) l) ≡ x)
 
   abbrev Left : Outcome → Type 0
-  Left x = outcome c.answer o' (take (room s o l) c.numbers) (take (room s o l) c.firsts) (take (room s o l) c.counts) ≡ x
+  Left x = outcome a o' (take (room s o l) c.numbers) (take (room s o l) c.firsts) (take (room s o l) c.counts) ≡ x
 
   abbrev to_zeros : (List ℕ → List ℕ → List ℕ → Outcome) → Outcome
   to_zeros f = f (zeros (room s o l)) (zeros (room s o l)) (zeros (room s o l))
@@ -189,31 +166,31 @@ module _ (s o o' : List ℕ) (l : List Body) (c : Columns) (er : c.rows ≡ bodi
   abbrev to_list : (List ℕ → List ℕ → List ℕ → Outcome) → Listing
   to_list f = in_list (f (map number_in l) (map first_in l) (map count_in l))
 
-  nothing_written : (a : Flattened) → bodies_of a ≡ 0 → Left (to_zeros (λ ns fs cs. untouched s o ns fs cs a)) → Makes (to_list (λ ns fs cs. untouched s o ns fs cs a))
-  nothing_written a z e =
-      let ea : c.answer ≡ a = ap (λ (x : Outcome). x.answer) e in
+  nothing_written : (r : FlattenError) → Left (to_zeros (λ ns fs cs. untouched s o ns fs cs r)) → Makes (to_list (λ ns fs cs. untouched s o ns fs cs r))
+  nothing_written r e =
+      let ea : a ≡ Err r = ap (λ (x : Outcome). x.answer) e in
       let eo : o' ≡ o = ap (λ (x : Outcome). x.out) e in
-      let n : c.rows ≡ 0 = er ∙ ap bodies_of ea ∙ z in
-      let t : over (entries_in c c.rows) l ≡ l = ap (λ (k : ℕ). over (entries_in c k) l) n ∙ sym (over_none c l) in
+      let n : rows ≡ 0 = ap bodies_of ea in
+      let t : over (entries_in c rows) l ≡ l = ap (λ (k : ℕ). over (entries_in c k) l) n ∙ sym (over_none c l) in
       let b = beside_columns l in
       ((omega (arith, n), omega (arith, n)), cc)
 
   all_written : (gs : List Op) (bs : List Body) → length bs ≤ length l → length bs ≤ 256 → Left (to_zeros (λ ns fs cs. written s o ns fs cs gs bs)) → Makes (to_list (λ ns fs cs. written s o ns fs cs gs bs))
   all_written gs bs hl hk e =
-      let ea : c.answer ≡ Written (length gs) (length (encode_all gs)) (length bs) = ap (λ (x : Outcome). x.answer) e in
+      let ea : a ≡ answers.written (length gs) (length (encode_all gs)) (length bs) = ap (λ (x : Outcome). x.answer) e in
       let eo : o' ≡ fill (encode_all gs) o = ap (λ (x : Outcome). x.out) e in
-      let n : c.rows ≡ length bs = er ∙ ap bodies_of ea in
+      let n : rows ≡ length bs = ap bodies_of ea in
       let t : entries_in c (length bs) ≡ bs =
       entries_are bs c.numbers c.firsts c.counts _ _ _
       (column number_in bs (room s o l) (zeros (room s o l)) c.numbers (ap (λ (x : Outcome). x.numbers) e))
       (column first_in bs (room s o l) (zeros (room s o l)) c.firsts (ap (λ (x : Outcome). x.firsts) e))
       (column count_in bs (room s o l) (zeros (room s o l)) c.counts (ap (λ (x : Outcome). x.counts) e)) in
-      let u : over (entries_in c c.rows) l ≡ over bs l = ap (λ (k : ℕ). over (entries_in c k) l) n ∙ ap (λ (x : List Body). over x l) t in
+      let u : over (entries_in c rows) l ≡ over bs l = ap (λ (k : ℕ). over (entries_in c k) l) n ∙ ap (λ (x : List Body). over x l) t in
       let b = beside_fill bs l in
       ((omega (arith, n), omega (arith, n)), cc)
 
   by_flat : (os : List Op) → marks_in os ≤ 256 → (f : Flat) → flatten os ≡ f → Left (to_zeros (λ ns fs cs. of_flat s o ns fs cs (marks_in os) f)) → Makes (to_list (λ ns fs cs. of_flat s o ns fs cs (marks_in os) f))
-  by_flat os m (loose p) q e = nothing_written (NoOpenEnd p) refl e
+  by_flat os m (loose p) q e = nothing_written (NoOpenEnd p) e
   by_flat os m (flat gs bs) q e =
       go (too_short s o (map number_in l) (map first_in l) (map count_in l) (marks_in os)) refl
       (e ∙ ap (λ (t : Bool). to_zeros (λ ns fs cs. cond t (untouched s o ns fs cs NoRoom) (written s o ns fs cs gs bs))) (short_same s o l (marks_in os) m))
@@ -221,15 +198,15 @@ module _ (s o o' : List ℕ) (l : List Body) (c : Columns) (er : c.rows ≡ bodi
       go : (t : Bool) → too_short s o (map number_in l) (map first_in l) (map count_in l) (marks_in os) ≡ t
           → Left (to_zeros (λ ns fs cs. cond t (untouched s o ns fs cs NoRoom) (written s o ns fs cs gs bs)))
           → Makes (to_list (λ ns fs cs. cond t (untouched s o ns fs cs NoRoom) (written s o ns fs cs gs bs)))
-      go true x h = nothing_written NoRoom refl h
+      go true x h = nothing_written NoRoom h
       go false x h =
-          let few = entries_few os gs bs q in
+          let few = as_many_entries os gs bs q in
           let r = room_enough s o l (marks_in os) x in
           all_written gs bs (omega (arith, few, r)) (omega (arith, few, m)) h
 
-  pub list_made : Left (to_zeros (flatten_of s o)) → Makes (flatten_to s o l)
+  made : Left (to_zeros (flatten_of s o)) → Makes (flatten_to s o l)
   unfolding flatten_of flatten_to
-  list_made e = by (eqb (patch_of s).number 0) refl
+  made e = by (eqb (patch_of s).number 0) refl
     where
       by : (t : Bool) → eqb (patch_of s).number 0 ≡ t → Makes (to_list (flatten_of s o))
       by true q =
@@ -240,7 +217,18 @@ module _ (s o o' : List ℕ) (l : List Body) (c : Columns) (er : c.rows ≡ bodi
       by false q =
           let h = refused_are s (eqb-false (patch_of s).number 0 q) in
           subst (λ (p : Patch). Makes (to_list (λ ns fs cs. of_patch s o ns fs cs p))) (sym h)
-          (nothing_written (BadFile (patch_of s).number (patch_of s).place) refl (e ∙ ap (λ (p : Patch). to_zeros (λ ns fs cs. of_patch s o ns fs cs p)) h))
+          (nothing_written (BadFile (patch_of s).number (patch_of s).place) (e ∙ ap (λ (p : Patch). to_zeros (λ ns fs cs. of_patch s o ns fs cs p)) h))
+
+-- what `write_entries` asks, and the whole, where flattening was lent the first n of each column
+pub list_made : (s o o' : List ℕ) (l : List Body) (a : Flattening) (n : ℕ) (ns fs cs : List ℕ) → n ≡ room_of (length l)
+    → length ns ≡ length (take n (zeros 256)) → length fs ≡ length (take n (zeros 256)) → length cs ≡ length (take n (zeros 256))
+    → outcome a o' ns fs cs ≡ flatten_of s o (take n (zeros 256)) (take n (zeros 256)) (take n (zeros 256))
+    → Makes s o o' l a (record { numbers = ns ++ drop n (zeros 256); firsts = fs ++ drop n (zeros 256); counts = cs ++ drop n (zeros 256) }) (flatten_to s o l)
+list_made s o o' l a n ns fs cs en ln lf lc e =
+    made s o o' l a _
+    (subst
+    (λ (k : ℕ). outcome a o' (take k (ns ++ drop n (zeros 256))) (take k (fs ++ drop n (zeros 256))) (take k (cs ++ drop n (zeros 256))) ≡ flatten_of s o (zeros k) (zeros k) (zeros k)) en
+    (columns_are s o o' a n ns fs cs (omega (arith, en)) ln lf lc e))
 
 -- ---- laws of the list
 
@@ -278,21 +266,21 @@ module _ (s o : List ℕ) (l : List Body) (w : Below 256 s) where
       }
 
   -- each entry's ops are the body that the entry says
-  pub list_told : (n b k : ℕ) → (flatten_to s o l).answer ≡ Written n b k → Told s l b k (flatten_to s o l)
+  pub list_told : (n b k : ℕ) → (flatten_to s o l).answer ≡ answers.written n b k → Told s l b k (flatten_to s o l)
   unfolding flatten_of flatten_to
   list_told n b k a = by (eqb (patch_of s).number 0) refl
     where
       room : (z : (patch_of s).number ≡ 0) (gs : List Op) (bs : List Body) → flatten (ops_in s) ≡ flat gs bs → (t : Bool)
-          → (on_list (λ ns fs cs. cond t (untouched s o ns fs cs NoRoom) (written s o ns fs cs gs bs))).answer ≡ Written n b k
+          → (on_list (λ ns fs cs. cond t (untouched s o ns fs cs NoRoom) (written s o ns fs cs gs bs))).answer ≡ answers.written n b k
           → Told s l b k (on_list (λ ns fs cs. cond t (untouched s o ns fs cs NoRoom) (written s o ns fs cs gs bs)))
       room z gs bs q true x = clash (cc)
       room z gs bs q false x =
-          let eb : length (encode_all gs) ≡ b = cc in
-          let ek : length bs ≡ k = cc in
+          let eb : length (encode_all gs) ≡ b = ap bytes_of x in
+          let ek : length bs ≡ k = ap bodies_of x in
           subst (λ (i : ℕ). Told s l i k (on_list (λ ns fs cs. written s o ns fs cs gs bs))) eb
           (subst (λ (i : ℕ). Told s l (length (encode_all gs)) i (on_list (λ ns fs cs. written s o ns fs cs gs bs))) ek (written_told z gs bs q))
 
-      flats : (z : (patch_of s).number ≡ 0) (f : Flat) → flatten (ops_in s) ≡ f → (on_list (λ ns fs cs. of_flat s o ns fs cs (marks_in (ops_in s)) f)).answer ≡ Written n b k
+      flats : (z : (patch_of s).number ≡ 0) (f : Flat) → flatten (ops_in s) ≡ f → (on_list (λ ns fs cs. of_flat s o ns fs cs (marks_in (ops_in s)) f)).answer ≡ answers.written n b k
           → Told s l b k (on_list (λ ns fs cs. of_flat s o ns fs cs (marks_in (ops_in s)) f))
       flats z (loose p) q x = clash (cc)
       flats z (flat gs bs) q x = room z gs bs q (too_short s o (map number_in l) (map first_in l) (map count_in l) (marks_in (ops_in s))) x
@@ -305,5 +293,5 @@ module _ (s o : List ℕ) (l : List Body) (w : Below 256 s) where
           (flats z (flatten (ops_in s)) refl (ap (λ (p : Patch). (on_list (λ ns fs cs. of_patch s o ns fs cs p)).answer) (sym h) ∙ a))
       by false q =
           let h = refused_are s (eqb-false (patch_of s).number 0 q) in
-          let x : BadFile (patch_of s).number (patch_of s).place ≡ Written n b k = ap (λ (p : Patch). (on_list (λ ns fs cs. of_patch s o ns fs cs p)).answer) (sym h) ∙ a in
+          let x : ◌≡◌ {A = Flattening} (Err (BadFile (patch_of s).number (patch_of s).place)) (answers.written n b k) = ap (λ (p : Patch). (on_list (λ ns fs cs. of_patch s o ns fs cs p)).answer) (sym h) ∙ a in
           clash (cc)

@@ -4,9 +4,12 @@ use native.Mathlib.Nat.{not-suc-le-zero, le_of_suc-le-suc, zero-add}
 use native.Mathlib.Omega.{arith}
 use borrow.Author.Tests.{lt-ltb, le-ltb}
 use mathlib.Core.Path.{◌≡◌, refl, ap, ap₂, sym, ◌∙◌}
-use mathlib.Core.Bool.{true, false}
-use mathlib.Core.List.{List, [], ◌∷◌, ◌++◌, map}
+use mathlib.Core.Bool.{Bool, true, false, cond}
+use Rattle.std.specs.Prelude.{Ok, Err, ◌==◌, ◌⊎◌}
+use Rattle.std.proofs.Common.{inl, inr}
+use mathlib.Core.List.{List, [], ◌∷◌, map}
 use lib.ListN.{length, get_or, take, length-map, length-append, get_or-map}
+use Rattle.std.proofs.lemmas.List.Sums.{sum_by-cons}
 use Rattle.ops.specs.Syntax.{Op}
 use Rattle.ops.specs.Syntax.Op.{control, set, load, plain}
 use Rattle.ops.specs.Syntax.Plain.{free}
@@ -15,24 +18,25 @@ use Rattle.ops.specs.Patch.{Item, row_in, mark_of, patch_of}
 use Rattle.patch_reader.specs.Answer.{read_of}
 use Rattle.ops.specs.Decode.{rows, row_at, op_with, op_at}
 use Rattle.ops.specs.Write.{encode_all, mark_in, marks_in}
-use Rattle.patch_reader.specs.declared.reader.Read.{Read}
+use Rattle.patch_reader.specs.declared.reader.Unread.{Unread}
 use Rattle.file_laws.proofs.Encoded.{known}
 use Rattle.file_laws.proofs.Items.{IsItem, Every, items_are}
 use Rattle.file_laws.proofs.Fitting.{below_all}
 use Rattle.file_laws.proofs.Loaded as loaded
 use Rattle.file_laws.proofs.Meaning.{means, ops_are, refused_are}
 use Rattle.patch_reader.proofs.Whole.{tells}
-use Rattle.flattening.specs.Flatten.{Note, note, notes, Numbered, number, body, bodies, gathered, others, laid, flatten, Flat}
+use Rattle.flattening.specs.Flatten.{Note, note, notes, Numbered, number, body, gathered, laid, flatten, Flat}
 use Rattle.flattening.specs.Flatten.Note.{stays}
 use Rattle.flattening.specs.Flatten.Numbered.{stray, numbered}
 use Rattle.flattening.specs.Flatten.Flat.{loose, flat}
-use Rattle.flattening.specs.Scope.{row_note, row_notes, row_marks, told}
-use Rattle.flattening.specs.declared.numbering.Numbering.{Numbering}
-use Rattle.flattening.specs.declared.numbering.Numbering.TheVariants.{NoOpenEnd, Done}
-use Rattle.flattening.specs.Flattened.{outcome, good_ops, ops_in, number_in, first_in, count_in, too_short, of_flat, of_patch, flatten_of}
-use Rattle.answers.specs.declared.flatten.Flattened.TheVariants as flattened
+use Rattle.flattening.specs.declared.body.Body.{Body}
+use Rattle.flattening.specs.Scope.{row_note, row_notes, row_marks, listed}
+use Rattle.flattening.specs.Flattened.{outcome, good_ops, ops_in, number_in, first_in, count_in, functions, ops_by, entries_by, CanWrite, too_short, of_flat, of_patch, flatten_of}
+use Rattle.answers.specs.Flatten.{Flattening}
+use Rattle.answers.specs.Flatten as answers
+use Rattle.answers.specs.declared.flatten.FlattenError.TheVariants as error
 use Rattle.flattening.proofs.Flattened.{same_ops, same_bytes}
-use Rattle.flattening.proofs.FewBodies.{few_bodies, length_bodies}
+use Rattle.flattening.proofs.InOrder.{each_has_body, as_many_bodies, length_bodies}
 use Rattle.flattening.proofs.Copying.{is_patch, file_bytes}
 
 -- ---- rows and ops
@@ -72,7 +76,8 @@ module _ (s : List ℕ) where
       let t = tells s h.first i.row i.payload h.len i.count h.next h.is in
       row_note_lem i.row t.small ∙ sym (note_with s i.payload i.count (row_at i.row))
 
-  mark_item : (i : Item) → IsItem s i → mark_of i.row ≡ mark_in (op_at s i)
+  mark_item : (i : Item) → IsItem s i → cond (i.row == 2) 1 0 ≡ mark_in (op_at s i)
+  unfolding mark_of
   mark_item i h = ap mark_of (sym (means s i h).row) ∙ (known (op_at s i)).3
 
   notes_are : (is : List Item) → Every (IsItem s) is → row_notes (map row_in is) ≡ notes (map (op_at s) is)
@@ -81,131 +86,145 @@ module _ (s : List ℕ) where
 
   marks_are : (is : List Item) → Every (IsItem s) is → row_marks (map row_in is) ≡ marks_in (map (op_at s) is)
   marks_are [] e = refl
-  marks_are (i ∷ is) e = ap₂ (λ (x y : ℕ). x + y) (mark_item i e.0) (marks_are is e.1)
+  marks_are (i ∷ is) e = sum_by-cons (λ k. cond (k == 2) 1 0) i.row (map row_in is) ∙ ap₂ (λ (x y : ℕ). x + y) (mark_item i e.0) (marks_are is e.1)
+
+-- ---- room that is too short, as it is found
+
+abbrev pub TooShort : (s o ns fs ks : List ℕ) → ℕ → Type 0
+TooShort s o ns fs ks m =
+    (length o < length s)
+    ⊎ ((length s ≤ length o) × (length ns < m))
+    ⊎ ((length s ≤ length o) × (m ≤ length ns) × (length fs < m))
+    ⊎ ((length s ≤ length o) × (m ≤ length ns) × (m ≤ length fs) × (length ks < m))
+
+is_short : (s o ns fs ks : List ℕ) (m : ℕ) → TooShort s o ns fs ks m → too_short s o ns fs ks m ≡ true
+is_short s o ns fs ks m (inl h) = rw (lt-ltb (length o) (length s) h) refl
+is_short s o ns fs ks m (inr (inl h)) = rw (le-ltb (length o) (length s) h.0, lt-ltb (length ns) m h.1) refl
+is_short s o ns fs ks m (inr (inr (inl h))) = rw (le-ltb (length o) (length s) h.0, le-ltb (length ns) m h.1, lt-ltb (length fs) m h.2) refl
+is_short s o ns fs ks m (inr (inr (inr h))) = rw (le-ltb (length o) (length s) h.0, le-ltb (length ns) m h.1, le-ltb (length fs) m h.2, lt-ltb (length ks) m h.3) refl
 
 -- ---- a bad file
 
-module _ (s : List ℕ) (r : Read) (e : r ≡ read_of (patch_of s)) where
-  pub bad_file : (o ns fs ks : List ℕ) → (r.number ≡ 0 → ⊥) → outcome (flattened.BadFile r.number r.place) o ns fs ks ≡ flatten_of s o ns fs ks
-  unfolding flatten_of
-  bad_file o ns fs ks z = rw (refused_are s (loaded.bad_file s r e z), loaded.number_is s r e, loaded.bad_place s r e z)
+pub bad_file : (s o ns fs ks : List ℕ) (u : Unread) (a : Flattening) → Err u ≡ read_of (patch_of s) → a ≡ Err (answers.bad_file u)
+    → outcome a o ns fs ks ≡ flatten_of s o ns fs ks
+unfolding flatten_of
+bad_file s o ns fs ks u a e ea = rw (ea, refused_are s (loaded.bad_file s u e), loaded.bad_number s u e, loaded.bad_place s u e) refl
 
 -- ---- a good file
 
-module _ (s : List ℕ) (r : Read) (e : r ≡ read_of (patch_of s)) (z : r.number ≡ 0) where
-  pub good : (patch_of s).number ≡ 0
-  good = loaded.good_file s r e z
+module _ (s : List ℕ) (n : ℕ) (e : Ok n ≡ read_of (patch_of s)) where
+  good : (patch_of s).number ≡ 0
+  good = loaded.good_file s n e
+
+  good_count : n ≡ length (patch_of s).items
+  good_count = loaded.good_ops s n e
+
+  pub few_ops : n ≤ 4096
+  few_ops = loaded.few s n good_count
 
   ops_here : ops_in s ≡ map (op_at s) (patch_of s).items
   unfolding ops_in
   ops_here = ap good_ops (ops_are s good)
 
-  pub op_count : length (ops_in s) ≡ r.ops
-  op_count = ap length ops_here ∙ length-map (patch_of s).items (op_at s) ∙ sym (loaded.ops_is s r e)
+  op_count : length (ops_in s) ≡ n
+  op_count = ap length ops_here ∙ length-map (patch_of s).items (op_at s) ∙ sym good_count
 
   module _ (k₀ k : List ℕ) (ek : k ≡ fill (map row_in (patch_of s).items) k₀) where
-    rows_are : take r.ops k ≡ map row_in (patch_of s).items
-    rows_are = loaded.part_is s r e row_in k k₀ ek
+    pub few_rows : length (take n k) ≤ 4096
+    few_rows = loaded.part_few s n good_count row_in k k₀ ek
 
-    notes_here : row_notes (take r.ops k) ≡ notes (ops_in s)
+    rows_are : take n k ≡ map row_in (patch_of s).items
+    rows_are = loaded.part_is s n good_count row_in k k₀ ek
+
+    notes_here : row_notes (take n k) ≡ notes (ops_in s)
     notes_here = ap row_notes rows_are ∙ notes_are s (patch_of s).items (items_are s) ∙ ap notes (sym ops_here)
 
-    marks_here : row_marks (take r.ops k) ≡ marks_in (ops_in s)
+    marks_here : row_marks (take n k) ≡ marks_in (ops_in s)
     marks_here = ap row_marks rows_are ∙ marks_are s (patch_of s).items (items_are s) ∙ ap marks_in (sym ops_here)
 
     by_flat : (o ns fs ks : List ℕ) (f : Flat) → flatten (ops_in s) ≡ f → of_flat s o ns fs ks (marks_in (ops_in s)) f ≡ flatten_of s o ns fs ks
     unfolding flatten_of
     by_flat o ns fs ks f q = ap (of_flat s o ns fs ks (marks_in (ops_in s))) (sym q) ∙ ap (of_patch s o ns fs ks) (sym (is_patch s good))
 
-    flat_of : (x : Numbered) → x ≡ number 0 0 0 [] [] (row_notes (take r.ops k)) → flatten (ops_in s) ≡ laid (ops_in s) x
+    flat_of : (x : Numbered) → x ≡ number 0 0 0 [] [] (row_notes (take n k)) → flatten (ops_in s) ≡ laid (ops_in s) x
     unfolding flatten
     flat_of x q = ap (λ (ns : List Note). laid (ops_in s) (number 0 0 0 [] [] ns)) (sym notes_here) ∙ ap (laid (ops_in s)) (sym q)
 
     -- "An End with no open bracket is 10"
-    pub stray_file : (o ns fs ks : List ℕ) (x : Numbering) (p : ℕ) (cs seen : List ℕ) → x ≡ NoOpenEnd p → told x cs seen ≡ number 0 0 0 [] [] (row_notes (take r.ops k))
-        → outcome (flattened.NoOpenEnd p) o ns fs ks ≡ flatten_of s o ns fs ks
+    pub stray_file : (o ns fs ks : List ℕ) (p : ℕ) (a : Flattening) → stray p ≡ number 0 0 0 [] [] (row_notes (take n k)) → a ≡ Err (error.NoOpenEnd p)
+        → outcome a o ns fs ks ≡ flatten_of s o ns fs ks
     unfolding flatten
-    stray_file o ns fs ks x p cs seen ex t =
-        by_flat o ns fs ks (loose p) (flat_of (stray p) (ap (λ (y : Numbering). told y cs seen) (sym ex) ∙ t))
+    stray_file o ns fs ks p a t ea = rw ea (by_flat o ns fs ks (loose p) (flat_of (stray p) t))
 
     -- every op has its body
-    module _ (x : Numbering) (owner seen : List ℕ) (done : x ≡ Done)
-        (t : told x (take (length (take r.ops k)) owner) seen ≡ number 0 0 0 [] [] (row_notes (take r.ops k))) where
+    module _ (owner : List ℕ) (flags : List Bool) (t : numbered (take (length (take n k)) owner) (listed 0 flags) ≡ number 0 0 0 [] [] (row_notes (take n k))) where
       abbrev cs : List ℕ
-      cs = take r.ops owner
+      cs = take n owner
 
-      told_is : numbered cs seen ≡ number 0 0 0 [] [] (row_notes (take r.ops k))
-      told_is =
-          ap (λ (j : ℕ). numbered (take j owner) seen) (loaded.part_length s r e row_in k k₀ ek)
-          ∙ ap (λ (y : Numbering). told y (take (length (take r.ops k)) owner) seen) (sym done)
-          ∙ t
+      abbrev seen : List ℕ
+      seen = listed 0 flags
 
-      flat_ops : List Op
-      flat_ops = gathered (others seen) cs (ops_in s) ++ body 0 cs (ops_in s)
+      told_is : numbered cs seen ≡ number 0 0 0 [] [] (row_notes (take n k))
+      told_is = ap (λ (i : ℕ). numbered (take i owner) seen) (loaded.part_length s n good_count row_in k k₀ ek) ∙ t
 
-      flat_is : flatten (ops_in s) ≡ flat flat_ops (bodies 0 (others seen) cs (ops_in s))
-      unfolding flat_ops flatten
+      abbrev gs : List Op
+      gs = ops_by flags cs (ops_in s)
+
+      abbrev es : List Body
+      es = entries_by flags cs (ops_in s)
+
+      flat_is : flatten (ops_in s) ≡ flat gs es
+      unfolding flatten
       flat_is = flat_of (numbered cs seen) told_is
 
-      answer_is : (o ns fs ks : List ℕ) → of_flat s o ns fs ks (marks_in (ops_in s)) (flat flat_ops (bodies 0 (others seen) cs (ops_in s))) ≡ flatten_of s o ns fs ks
+      answer_is : (o ns fs ks : List ℕ) → of_flat s o ns fs ks (marks_in (ops_in s)) (flat gs es) ≡ flatten_of s o ns fs ks
       answer_is o ns fs ks = by_flat o ns fs ks _ flat_is
 
-      entries_few : length (others seen) ≤ row_marks (take r.ops k)
-      entries_few = omega (arith, few_bodies (ops_in s) cs seen (ap (number 0 0 0 [] []) (sym notes_here) ∙ sym told_is), marks_here)
+      numbering : number 0 0 0 [] [] (notes (ops_in s)) ≡ numbered cs seen
+      numbering = ap (number 0 0 0 [] []) (sym notes_here) ∙ sym told_is
 
-      -- ---- no room
+      entries_few : length (functions flags) ≤ row_marks (take n k)
+      entries_few = omega (arith, as_many_bodies (ops_in s) cs seen numbering, marks_here)
 
-      module _ (o ns fs ks : List ℕ) where
-        no_room : too_short s o ns fs ks (marks_in (ops_in s)) ≡ true → outcome flattened.NoRoom o ns fs ks ≡ flatten_of s o ns fs ks
-        no_room t = sym (rw t refl) ∙ answer_is o ns fs ks
+      module _ (o ns fs ks : List ℕ) (m : ℕ) (em : m ≡ row_marks (take n k)) where
+        m_is : m ≡ marks_in (ops_in s)
+        m_is = em ∙ marks_here
 
-        pub short_bytes : length o < length s → outcome flattened.NoRoom o ns fs ks ≡ flatten_of s o ns fs ks
-        short_bytes h = no_room (rw (lt-ltb (length o) (length s) h) refl)
+        -- no room
+        pub short : TooShort s o ns fs ks m → outcome (Err error.NoRoom) o ns fs ks ≡ flatten_of s o ns fs ks
+        short h = sym (rw (← m_is, is_short s o ns fs ks m h) refl) ∙ answer_is o ns fs ks
 
-        module _ (ho : length s ≤ length o) (m : ℕ) (em : m ≡ row_marks (take r.ops k)) where
-          m_is : m ≡ marks_in (ops_in s)
-          m_is = em ∙ marks_here
+        -- room
+        module _ (ho : length s ≤ length o) (hn : m ≤ length ns) (hf : m ≤ length fs) (hk : m ≤ length ks) (w : (i : ℕ) → get_or s i 0 < 256) where
+          bytes_same : length (encode_all gs) ≡ length s
+          bytes_same = same_bytes (ops_in s) gs _ flat_is ∙ ap length (file_bytes s good (below_all s w))
 
-          pub short_numbers : length ns < m → outcome flattened.NoRoom o ns fs ks ≡ flatten_of s o ns fs ks
-          short_numbers h = no_room (rw (sym m_is, le-ltb (length o) (length s) ho, lt-ltb (length ns) m h) refl)
+          -- what `write_bodies` asks
+          pub can_write : CanWrite s cs flags o ns fs ks
+          can_write = record {
+            good = good;
+            owned = each_has_body (ops_in s) cs seen numbering;
+            few =
+                omega (
+                  arith,
+                  same_ops (ops_in s) gs _ flat_is,
+                  length-append (gathered (functions flags) cs (ops_in s)) (body 0 cs (ops_in s)),
+                  op_count,
+                  few_ops,
+                );
+            bytes = omega (arith, bytes_same, ho);
+            numbers = omega (arith, entries_few, em, hn);
+            firsts = omega (arith, entries_few, em, hf);
+            counts = omega (arith, entries_few, em, hk);
+          }
 
-          pub short_firsts : m ≤ length ns → length fs < m → outcome flattened.NoRoom o ns fs ks ≡ flatten_of s o ns fs ks
-          short_firsts hn h = no_room (rw (sym m_is, le-ltb (length o) (length s) ho, le-ltb (length ns) m hn, lt-ltb (length fs) m h) refl)
-
-          pub short_counts : m ≤ length ns → m ≤ length fs → length ks < m → outcome flattened.NoRoom o ns fs ks ≡ flatten_of s o ns fs ks
-          short_counts hn hf h = no_room (rw (sym m_is, le-ltb (length o) (length s) ho, le-ltb (length ns) m hn, le-ltb (length fs) m hf, lt-ltb (length ks) m h) refl)
-
-          -- ---- room
-
-          module _ (hn : m ≤ length ns) (hf : m ≤ length fs) (hk : m ≤ length ks) (w : (i : ℕ) → get_or s i 0 < 256) where
-            bytes_same : length (encode_all flat_ops) ≡ length s
-            bytes_same = same_bytes (ops_in s) flat_ops _ flat_is ∙ ap length (file_bytes s good (below_all s w))
-
-            -- what `write_bodies` asks
-            pub fits : ((length (gathered (others seen) cs (ops_in s)) ≤ 4096) × (length (encode_all (gathered (others seen) cs (ops_in s) ++ body 0 cs (ops_in s))) ≤ length o))
-                × ((length (others seen) ≤ length ns) × ((length (others seen) ≤ length fs) × (length (others seen) ≤ length ks)))
-            unfolding flat_ops
-            fits =
-                let few : length (gathered (others seen) cs (ops_in s)) ≤ 4096 =
-                omega (arith, same_ops (ops_in s) flat_ops _ flat_is, length-append (gathered (others seen) cs (ops_in s)) (body 0 cs (ops_in s)), op_count, loaded.few s r e) in
-                ((few, omega (arith, bytes_same, ho)), (omega (arith, entries_few, em, hn), (omega (arith, entries_few, em, hf), omega (arith, entries_few, em, hk))))
-
-            pub written_file : (n : ℕ) (o' ns' fs' ks' : List ℕ) → n ≡ length (others seen)
-                → o' ≡ fill (encode_all (gathered (others seen) cs (ops_in s) ++ body 0 cs (ops_in s))) o
-                → ns' ≡ fill (map number_in (bodies 0 (others seen) cs (ops_in s))) ns
-                → fs' ≡ fill (map first_in (bodies 0 (others seen) cs (ops_in s))) fs
-                → ks' ≡ fill (map count_in (bodies 0 (others seen) cs (ops_in s))) ks
-                → outcome (flattened.Written r.ops (length s) n) o' ns' fs' ks' ≡ flatten_of s o ns fs ks
-            unfolding flat_ops
-            written_file n o' ns' fs' ks' en eo e1 e2 e3 =
-                let gs = gathered (others seen) cs (ops_in s) ++ body 0 cs (ops_in s) in
-                let bs = bodies 0 (others seen) cs (ops_in s) in
-                let a : r.ops ≡ length gs = sym op_count ∙ sym (same_ops (ops_in s) flat_ops _ flat_is) in
-                let b : length s ≡ length (encode_all gs) = sym bytes_same in
-                let c : n ≡ length bs = en ∙ sym (length_bodies 0 (others seen) cs (ops_in s)) in
-                let t : too_short s o ns fs ks (marks_in (ops_in s)) ≡ false =
-                rw (sym m_is, le-ltb (length o) (length s) ho, le-ltb (length ns) m hn, le-ltb (length fs) m hf, le-ltb (length ks) m hk) refl in
-                let x : outcome (flattened.Written r.ops (length s) n) o' ns' fs' ks'
-                ≡ outcome (flattened.Written (length gs) (length (encode_all gs)) (length bs)) (fill (encode_all gs) o) (fill (map number_in bs) ns) (fill (map first_in bs) fs) (fill (map count_in bs) ks) =
-                cc in
-                x ∙ sym (rw t refl) ∙ answer_is o ns fs ks
+          pub written_file : (j : ℕ) (o' ns' fs' ks' : List ℕ) → j ≡ length (functions flags) → o' ≡ fill (encode_all gs) o
+              → ns' ≡ fill (map number_in es) ns → fs' ≡ fill (map first_in es) fs → ks' ≡ fill (map count_in es) ks
+              → outcome (answers.written n (length s) j) o' ns' fs' ks' ≡ flatten_of s o ns fs ks
+          written_file j o' ns' fs' ks' en eo e1 e2 e3 =
+              let a : n ≡ length gs = sym op_count ∙ sym (same_ops (ops_in s) gs _ flat_is) in
+              let b : length s ≡ length (encode_all gs) = sym bytes_same in
+              let c : j ≡ length es = en ∙ sym (length_bodies 0 (functions flags) cs (ops_in s)) in
+              let t : too_short s o ns fs ks (marks_in (ops_in s)) ≡ false =
+              rw (sym m_is, le-ltb (length o) (length s) ho, le-ltb (length ns) m hn, le-ltb (length fs) m hf, le-ltb (length ks) m hk) refl in
+              rw (a, b, c, eo, e1, e2, e3) (sym (rw t refl) ∙ answer_is o ns fs ks)

@@ -6,14 +6,14 @@ use mathlib.Core.Path.{◌≡◌, refl, ap, sym, ◌∙◌, subst}
 use mathlib.Core.Bool.{Bool, true, false, cond}
 use mathlib.Core.List.{List, [], ◌∷◌, ◌++◌}
 use lib.Dec.{eqb, ltb}
-use lib.ListN.{length, length-append}
+use lib.ListN.{length, length-append, length-map}
 use Rattle.basics.proofs.Clash.{clash}
 use Rattle.basics.proofs.Tests.{or_first, or_second, or_either}
 use Rattle.ops.specs.Syntax.{Op}
 use Rattle.ops.specs.Write.{encode, encode_all, mark_in, marks_in}
 use Rattle.machine_model.specs.Step.{enter}
 use Rattle.machine_model.specs.Formed.{Each, Rising}
-use Rattle.flattening.specs.Flatten.{Note, notes, Numbered, named, has, fresh, number, body, gathered, others, laid, flatten}
+use Rattle.flattening.specs.Flatten.{Note, note, notes, Numbered, named, has, fresh, number, body, gathered, others, laid, flatten}
 use Rattle.flattening.specs.declared.body.Body.{Body}
 use Rattle.flattening.specs.Flatten.Note.{enters, opens, closes, stays}
 use Rattle.flattening.specs.Flatten.Numbered.{stray, numbered}
@@ -138,10 +138,6 @@ each_has : (xs ys cs : List ℕ) → ((c : ℕ) → has c xs ≡ true → has c 
 each_has xs ys [] s e = tt
 each_has xs ys (c ∷ cs) s e = (s c e.0, each_has xs ys cs s e.1)
 
-pub length_notes : (os : List Op) → length (notes os) ≡ length os
-length_notes [] = refl
-length_notes (o ∷ os) = ap suc (length_notes os)
-
 -- whatever is counted, the flattened patch has as much
 pub nothing_lost : (f : Op → ℕ) (os fs : List Op) (bs : List Body) → flatten os ≡ flat fs bs → tally f fs ≡ tally f os
 unfolding flatten gathered
@@ -153,7 +149,7 @@ nothing_lost f os fs bs e = by (number 0 0 0 [] [] (notes os)) (number_ok (notes
         let q : gathered (others seen) cs os ++ body 0 cs os ≡ fs = cc in
         ap (tally f) (sym q)
         ∙ tally_append f (gathered (others seen) cs os) (body 0 cs os)
-        ∙ omega (arith, tally_append f (body 0 cs os) (gathered (others seen) cs os), gathered_all f (0 ∷ others seen) cs os (others_rising seen r) (each_has seen (0 ∷ others seen) cs (λ c z. others_has c seen z) h) (l ∙ length_notes os))
+        ∙ omega (arith, tally_append f (body 0 cs os) (gathered (others seen) cs os), gathered_all f (0 ∷ others seen) cs os (others_rising seen r) (each_has seen (0 ∷ others seen) cs (λ c z. others_has c seen z) h) (l ∙ length-map os note))
 
 -- every op appears once: as many ops pass any test
 pub each_once : (t : Op → Bool) (os fs : List Op) (bs : List Body) → flatten os ≡ flat fs bs → tally (λ o. cond (t o) 1 0) fs ≡ tally (λ o. cond (t o) 1 0) os

@@ -21,7 +21,7 @@ use Rattle.flattening.specs.declared.body.Body.{Body}
 use Rattle.flattening.specs.Flatten.Numbered.{stray, numbered}
 use Rattle.flattening.specs.Flatten.Flat.{flat}
 use Rattle.flattening.specs.Flattened.{Outcome, ops_in, flatten_of}
-use Rattle.flattening.proofs.FewBodies.{length_bodies}
+use Rattle.flattening.proofs.InOrder.{length_bodies}
 use Rattle.flattening.proofs.Flattened.{same_ops, same_bytes, same_marks}
 use Rattle.flattening.proofs.Copying.{is_patch, file_bytes}
 

@@ -6,15 +6,14 @@ use Prim.Native.Nat.{ℕ, ◌≤◌}
 use native.Mathlib.Omega.{arith}
 use lib.ListN.{length, take, drop, length-append}
 use lib.Seq.{take_at}
+use Rattle.std.specs.Prelude.{Ok, Err}
 use Rattle.basics.proofs.Tests.{by_case}
 use Rattle.byte_fields.specs.Storage.{fill}
 use Rattle.ops.specs.Decode.{Patch, ops_of}
 use Rattle.ops.specs.Decode.Patch.{ops, refused}
 use Rattle.ops.specs.Syntax.{Op}
 use Rattle.ops.specs.Write.{encode_all, marks_in}
-use Rattle.answers.specs.Flatten.{number_of, bytes_of}
-use Rattle.answers.specs.declared.flatten.Flattened.{Flattened}
-use Rattle.answers.specs.declared.flatten.Flattened.TheVariants.{BadFile, NoOpenEnd, NoRoom, Written}
+use Rattle.answers.specs.Flatten.{Flattening, number_of, bytes_of}
 use Rattle.partners.specs.Read.{patch_read}
 use Rattle.flattening.specs.declared.body.Body.{Body}
 use Rattle.flattening.specs.Flatten.{Flat, flatten}
@@ -23,11 +22,9 @@ use Rattle.flattening.specs.Flattened.{Outcome, outcome, too_short, of_flat, of_
 use Rattle.flattening.specs.Handed.{Handed, handed, written_in, flatten_patch_of}
 use Rattle.flattening.specs.declared.handed.FlattenedPatch.{FlattenedPatch}
 
-nothing : (a : Flattened) → (number_of a ≡ 0 → ⊥) → bytes_of a ≡ 0
-nothing (BadFile n p) z = refl
-nothing (NoOpenEnd p) z = refl
-nothing NoRoom z = refl
-nothing (Written n l b) z = absurd (z refl)
+nothing : (a : Flattening) → (number_of a ≡ 0 → ⊥) → bytes_of a ≡ 0
+nothing (Ok f) z = absurd (z refl)
+nothing (Err e) z = refl
 
 module _ (s o ns fs cs : List ℕ) where
   -- no more was written than is lent

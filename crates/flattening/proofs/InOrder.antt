@@ -29,7 +29,7 @@ use Rattle.flattening.specs.Flattened.{number_in}
 use Rattle.flattening.specs.declared.body.Body.{Body}
 use Rattle.flattening.proofs.Flags.{has_none}
 use Rattle.flattening.proofs.Flattened.Ok.{good}
-use Rattle.flattening.proofs.Flattened.{Ok, number_ok, length_notes, has_self, has_more}
+use Rattle.flattening.proofs.Flattened.{Ok, number_ok, has_self, has_more}
 
 -- ---- entering a number
 
@@ -295,9 +295,12 @@ module _ (os : List Op) (cs seen : List ℕ) (e : number 0 0 0 [] [] (notes os) 
   pub marks_in_order : of_marks cs os ≡ others seen
   marks_in_order = sym ordered.0
 
+  pub each_has_body : length cs ≡ length os
+  each_has_body = given.0 ∙ length-map os note
+
   -- a body for each Function mark
   pub as_many_marks : length (of_marks cs os) ≡ marks_in os
-  as_many_marks = counted cs os (given.0 ∙ length_notes os)
+  as_many_marks = counted cs os each_has_body
 
   pub as_many_bodies : length (others seen) ≡ marks_in os
   as_many_bodies = ap length ordered.0 ∙ as_many_marks
@@ -324,6 +327,12 @@ pub record ByMarks (os fs : List Op) (es : List Body) : Type 0 where
   pub numbering : number 0 0 0 [] [] (notes os) ≡ numbered cs seen
   pub ops : fs ≡ gathered (of_marks cs os) cs os ++ body 0 cs os
   pub entries : es ≡ bodies 0 (of_marks cs os) cs os
+
+-- as many entries as bodies
+pub length_bodies : (p : ℕ) (bs cs : List ℕ) (os : List Op) → length (bodies p bs cs os) ≡ length bs
+unfolding bodies
+length_bodies p [] cs os = refl
+length_bodies p (b ∷ bs) cs os = ap suc (length_bodies (p + length (body b cs os)) bs cs os)
 
 bodies_numbers : (p : ℕ) (bs cs : List ℕ) (os : List Op) → map number_in (bodies p bs cs os) ≡ map (λ b. b - 1) bs
 unfolding bodies

@@ -4,7 +4,6 @@ pub mod NumberingLoop
 pub mod Copying
 pub mod Writing
 pub mod InOrder
-pub mod FewBodies
 pub mod File
 pub mod FlattenedIsAPatch
 pub mod Entries

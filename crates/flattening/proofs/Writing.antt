@@ -1,19 +1,21 @@
 -- One body further in `write_bodies`: the invariant of its loop, and what it shows where the loop ends. Assumes nothing.
-use Prim.Native.Nat.{ℕ, suc, ◌+◌, ◌-◌, ◌≤◌, ◌<◌}
+use Prim.Native.Nat.{ℕ, ◌+◌, ◌-◌, ◌≤◌, ◌<◌}
 use native.Mathlib.Nat.{zero-add}
 use native.Mathlib.Numerals.{add-one}
 use native.Mathlib.Omega.{arith}
 use mathlib.Core.Path.{◌≡◌, refl, ap, sym, ◌∙◌}
+use mathlib.Core.Bool.{Bool, true, false}
 use mathlib.Core.List.{List, [], ◌∷◌, ◌++◌, map, append_assoc, append-nil}
-use lib.ListN.{length, get_or, set, drop, length-append, length-set, drop_of_length-le}
+use lib.ListN.{length, get_or, set, drop, length-append, length-map, length-set, drop_of_length-le}
+use Rattle.std.proofs.lemmas.List.{map-append}
 use Rattle.ops.specs.Syntax.{Op}
 use Rattle.byte_fields.specs.Storage.{fill, placed}
 use Rattle.ops.specs.Write.{encode_all}
 use Rattle.byte_fields.proofs.Storage.{placed_then, length_placed, fill_snoc}
-use Rattle.flattening.specs.Flatten.{body, bodies, gathered, others}
+use Rattle.flattening.specs.Flatten.{body, bodies, gathered}
 use Rattle.flattening.specs.declared.body.Body.{Body}
 use Rattle.flattening.specs.Scope.{listed}
-use Rattle.flattening.specs.Flattened.{number_in, first_in, count_in}
+use Rattle.flattening.specs.Flattened.{number_in, first_in, count_in, functions, ops_by, entries_by}
 use Rattle.flattening.proofs.Flags.{others_listed, listed_over, listed_at}
 use Rattle.file_laws.proofs.Written.{encode_append}
 use Rattle.flattening.proofs.Copying.{encode_length}
@@ -34,32 +36,24 @@ fill_then xs ys old k e h =
     ∙ placed_then old 0 xs ys k (zero-add (length xs) ∙ sym e) h
     ∙ sym (fill_placed (xs ++ ys) old)
 
-map_snoc : (f : Body → ℕ) (es : List Body) (e : Body) → map f (es ++ (e ∷ [])) ≡ map f es ++ (f e ∷ [])
-map_snoc f [] e = refl
-map_snoc f (x ∷ es) e = ap (λ (l : List ℕ). f x ∷ l) (map_snoc f es e)
-
-map_length : (f : Body → ℕ) (es : List Body) → length (map f es) ≡ length es
-map_length f [] = refl
-map_length f (x ∷ es) = ap suc (map_length f es)
-
 -- one more entry
 more : (f : Body → ℕ) (es : List Body) (e : Body) (l old : List ℕ) (n v : ℕ) → l ≡ fill (map f es) old → n ≡ length es → v ≡ f e → n < length old
     → set l n v ≡ fill (map f (es ++ (e ∷ []))) old
 more f es e l old n v q en ev h =
     ap (λ (x : List ℕ). set x n v) q
-    ∙ fill_snoc (map f es) old v n (map_length f es ∙ sym en) h
-    ∙ ap (λ (x : List ℕ). fill x old) (ap (λ (w : ℕ). map f es ++ (w ∷ [])) ev ∙ sym (map_snoc f es e))
+    ∙ fill_snoc (map f es) old v n (length-map es f ∙ sym en) h
+    ∙ ap (λ (x : List ℕ). fill x old) (ap (λ (w : ℕ). map f es ++ (w ∷ [])) ev ∙ sym (map-append f es (e ∷ [])))
 
 -- ---- the loop
 
 -- the bodies below b are written: their ops are gs, their entries es
-pub record Writing (cs : List ℕ) (os : List Op) (seen out₀ ns₀ fs₀ ks₀ out ns fs ks : List ℕ) (at first n b : ℕ) : Type 0 where
+pub record Writing (cs : List ℕ) (os : List Op) (seen : List Bool) (out₀ ns₀ fs₀ ks₀ out ns fs ks : List ℕ) (at first n b : ℕ) : Type 0 where
   pub gs : List Op
   pub es : List Body
   pub upto : b ≤ 4097
-  pub whole : gathered (others (listed 0 seen)) cs os ≡ gs ++ gathered (listed b (drop b seen)) cs os
-  pub entries : bodies 0 (others (listed 0 seen)) cs os ≡ es ++ bodies first (listed b (drop b seen)) cs os
-  pub left : length (others (listed 0 seen)) ≡ n + length (listed b (drop b seen))
+  pub whole : gathered (functions seen) cs os ≡ gs ++ gathered (listed b (drop b seen)) cs os
+  pub entries : entries_by seen cs os ≡ es ++ bodies first (listed b (drop b seen)) cs os
+  pub left : length (functions seen) ≡ n + length (listed b (drop b seen))
   pub stands : out ≡ fill (encode_all gs) out₀
   pub to : at ≡ length (encode_all gs)
   pub ops : first ≡ length gs
@@ -72,10 +66,10 @@ pub record Writing (cs : List ℕ) (os : List Op) (seen out₀ ns₀ fs₀ ks₀
   pub fs_long : length fs ≡ length fs₀
   pub ks_long : length ks ≡ length ks₀
 
-pub begin : (cs : List ℕ) (os : List Op) (seen out ns fs ks : List ℕ) → length seen ≡ 4097 → Writing cs os seen out ns fs ks out ns fs ks 0 0 0 1
+pub begin : (cs : List ℕ) (os : List Op) (seen : List Bool) (out ns fs ks : List ℕ) → length seen ≡ 4097 → Writing cs os seen out ns fs ks out ns fs ks 0 0 0 1
 unfolding encode_all
 begin cs os seen out ns fs ks h =
-    let q : others (listed 0 seen) ≡ listed 1 (drop 1 seen) = others_listed seen (omega (arith, h)) in
+    let q : functions seen ≡ listed 1 (drop 1 seen) = others_listed seen (omega (arith, h)) in
     record {
       gs = [];
       es = [];
@@ -96,9 +90,9 @@ begin cs os seen out ns fs ks h =
       ks_long = refl;
     }
 
-module _ (cs : List ℕ) (os : List Op) (seen out₀ ns₀ fs₀ ks₀ out ns fs ks : List ℕ) (at first n b : ℕ) (c : Writing cs os seen out₀ ns₀ fs₀ ks₀ out ns fs ks at first n b) where
+module _ (cs : List ℕ) (os : List Op) (seen : List Bool) (out₀ ns₀ fs₀ ks₀ out ns fs ks : List ℕ) (at first n b : ℕ) (c : Writing cs os seen out₀ ns₀ fs₀ ks₀ out ns fs ks at first n b) where
   -- no op is in the body b
-  pub over : length seen ≡ 4097 → b < 4097 → get_or seen b 0 ≡ 0 → Writing cs os seen out₀ ns₀ fs₀ ks₀ out ns fs ks at first n (b + 1)
+  pub over : length seen ≡ 4097 → b < 4097 → get_or seen b false ≡ false → Writing cs os seen out₀ ns₀ fs₀ ks₀ out ns fs ks at first n (b + 1)
   over h l z =
       let q : listed b (drop b seen) ≡ listed (b + 1) (drop (b + 1) seen) = rw (add-one b) (listed_over seen b (omega (arith, h)) z) in
       record {
@@ -121,9 +115,9 @@ module _ (cs : List ℕ) (os : List Op) (seen out₀ ns₀ fs₀ ks₀ out ns fs
         ks_long = c.ks_long;
       }
 
-  module _ (h : length seen ≡ 4097) (l : b < 4097) (z : get_or seen b 0 ≡ 0 → ⊥)
-      (few : length (gathered (others (listed 0 seen)) cs os) ≤ 4096)
-      (room : length (encode_all (gathered (others (listed 0 seen)) cs os ++ body 0 cs os)) ≤ length out₀) where
+  module _ (h : length seen ≡ 4097) (l : b < 4097) (z : get_or seen b false ≡ true)
+      (few : length (gathered (functions seen) cs os) ≤ 4096)
+      (room : length (encode_all (ops_by seen cs os)) ≤ length out₀) where
     rest : List ℕ
     rest = listed (b + 1) (drop (b + 1) seen)
 
@@ -131,7 +125,7 @@ module _ (cs : List ℕ) (os : List Op) (seen out₀ ns₀ fs₀ ks₀ out ns fs
     unfolding rest
     split = rw (add-one b) (listed_at seen b (omega (arith, h)) z)
 
-    whole_on : gathered (others (listed 0 seen)) cs os ≡ (c.gs ++ body b cs os) ++ gathered rest cs os
+    whole_on : gathered (functions seen) cs os ≡ (c.gs ++ body b cs os) ++ gathered rest cs os
     unfolding gathered
     whole_on =
         c.whole
@@ -145,7 +139,7 @@ module _ (cs : List ℕ) (os : List Op) (seen out₀ ns₀ fs₀ ks₀ out ns fs
           c.to,
           c.out_long,
           room,
-          encode_length (gathered (others (listed 0 seen)) cs os) (body 0 cs os),
+          encode_length (gathered (functions seen) cs os) (body 0 cs os),
           ap (λ (x : List Op). length (encode_all x)) whole_on,
           encode_length (c.gs ++ body b cs os) (gathered rest cs os),
           encode_length c.gs (body b cs os),
@@ -162,10 +156,10 @@ module _ (cs : List ℕ) (os : List Op) (seen out₀ ns₀ fs₀ ks₀ out ns fs
           length-append c.gs (body b cs os),
         )
 
-    pub entry_fits : n < length (others (listed 0 seen))
+    pub entry_fits : n < length (functions seen)
     entry_fits = omega (arith, c.left, ap (λ (r : List ℕ). length r) split)
 
-    pub on : length (others (listed 0 seen)) ≤ length ns₀ → length (others (listed 0 seen)) ≤ length fs₀ → length (others (listed 0 seen)) ≤ length ks₀
+    pub on : length (functions seen) ≤ length ns₀ → length (functions seen) ≤ length fs₀ → length (functions seen) ≤ length ks₀
         → (m next : ℕ) (out' : List ℕ) → m ≡ length (body b cs os) → next ≡ at + length (encode_all (body b cs os)) → out' ≡ placed out at (encode_all (body b cs os))
         → Writing cs os seen out₀ ns₀ fs₀ ks₀ out' (set ns n (b - 1)) (set fs n first) (set ks n m) next (first + m) (n + 1) (b + 1)
     unfolding rest bodies
@@ -207,18 +201,18 @@ module _ (cs : List ℕ) (os : List Op) (seen out₀ ns₀ fs₀ ks₀ out ns fs
     unfolding listed
     none = ap (listed b) (drop_of_length-le seen {i = b} (omega (arith, h)))
 
-    all_ops : gathered (others (listed 0 seen)) cs os ≡ c.gs
+    all_ops : gathered (functions seen) cs os ≡ c.gs
     unfolding gathered
     all_ops = c.whole ∙ ap (λ (r : List ℕ). c.gs ++ gathered r cs os) none ∙ append-nil c.gs
 
-    all_entries : bodies 0 (others (listed 0 seen)) cs os ≡ c.es
+    all_entries : entries_by seen cs os ≡ c.es
     unfolding bodies
     all_entries = c.entries ∙ ap (λ (r : List ℕ). c.es ++ bodies first r cs os) none ∙ append-nil c.es
 
-    pub count_is : n ≡ length (others (listed 0 seen))
+    pub count_is : n ≡ length (functions seen)
     count_is = omega (arith, c.left, ap (λ (r : List ℕ). length r) none)
 
-    module _ (room : length (encode_all (gathered (others (listed 0 seen)) cs os ++ body 0 cs os)) ≤ length out₀) where
+    module _ (room : length (encode_all (ops_by seen cs os)) ≤ length out₀) where
       pub main_fits : at + length (encode_all (body 0 cs os)) ≤ length out
       main_fits =
           omega (
@@ -226,12 +220,12 @@ module _ (cs : List ℕ) (os : List Op) (seen out₀ ns₀ fs₀ ks₀ out ns fs
             c.to,
             c.out_long,
             room,
-            encode_length (gathered (others (listed 0 seen)) cs os) (body 0 cs os),
+            encode_length (gathered (functions seen) cs os) (body 0 cs os),
             ap (λ (x : List Op). length (encode_all x)) all_ops,
           )
 
       pub out_is : (out' : List ℕ) → out' ≡ placed out at (encode_all (body 0 cs os))
-          → out' ≡ fill (encode_all (gathered (others (listed 0 seen)) cs os ++ body 0 cs os)) out₀
+          → out' ≡ fill (encode_all (ops_by seen cs os)) out₀
       out_is out' eo =
           let f = main_fits in
           eo
@@ -240,11 +234,11 @@ module _ (cs : List ℕ) (os : List Op) (seen out₀ ns₀ fs₀ ks₀ out ns fs
           ∙ ap (λ (x : List ℕ). fill x out₀) (sym (encode_append c.gs (body 0 cs os)))
           ∙ ap (λ (x : List Op). fill (encode_all (x ++ body 0 cs os)) out₀) (sym all_ops)
 
-    pub numbers_are : ns ≡ fill (map number_in (bodies 0 (others (listed 0 seen)) cs os)) ns₀
+    pub numbers_are : ns ≡ fill (map number_in (entries_by seen cs os)) ns₀
     numbers_are = c.numbers ∙ ap (λ (x : List Body). fill (map number_in x) ns₀) (sym all_entries)
 
-    pub firsts_are : fs ≡ fill (map first_in (bodies 0 (others (listed 0 seen)) cs os)) fs₀
+    pub firsts_are : fs ≡ fill (map first_in (entries_by seen cs os)) fs₀
     firsts_are = c.firsts ∙ ap (λ (x : List Body). fill (map first_in x) fs₀) (sym all_entries)
 
-    pub counts_are : ks ≡ fill (map count_in (bodies 0 (others (listed 0 seen)) cs os)) ks₀
+    pub counts_are : ks ≡ fill (map count_in (entries_by seen cs os)) ks₀
     counts_are = c.counts ∙ ap (λ (x : List Body). fill (map count_in x) ks₀) (sym all_entries)

@@ -1,10 +1,9 @@
 -- Flattening into the caller's list: its entries are three lists of numbers side by side. Assumes nothing.
-use Rattle.std.specs.Prelude.{ℕ, zero, suc, cond, List, [], ◌∷◌, ◌++◌, map, ltb, length, get_or, drop}
+use Rattle.std.specs.Prelude.{ℕ, zero, suc, min, List, [], ◌∷◌, ◌++◌, map, length, get_or, drop}
 use Rattle.basics.specs.Limits.{most_marks}
-use Rattle.answers.specs.Flatten.{number_of, place_of, bytes_of, bodies_of}
+use Rattle.answers.specs.Flatten.{Flattening, number_of, place_of, bytes_of, bodies_of}
 use Rattle.flattening.specs.Flattened.{Outcome, number_in, first_in, count_in, flatten_of}
 use Rattle.flattening.specs.declared.body.Body.{Body}
-use Rattle.answers.specs.declared.flatten.Flattened.{Flattened}
 use Rattle.flattening.specs.declared.export.Report.{Report}
 use Rattle.flattening.specs.declared.flatten.Columns.{Columns}
 
@@ -20,11 +19,11 @@ beside (n ∷ ns) (f ∷ fs) (c ∷ cs) = entry n f c ∷ beside ns fs cs
 
 -- the answer, the lent bytes, and the lent list
 pub record Listing : Type 0 where
-  pub answer : Flattened
+  pub answer : Flattening
   pub out : List ℕ
   pub bodies : List Body
 
-abbrev pub listing : Flattened → List ℕ → List Body → Listing
+abbrev pub listing : Flattening → List ℕ → List Body → Listing
 listing a o l = record { answer = a; out = o; bodies = l }
 
 abbrev pub in_list : Outcome → Listing
@@ -35,14 +34,14 @@ unfoldable pub flatten_to : List ℕ → List ℕ → List Body → Listing
 flatten_to s o l = in_list (flatten_of s o (map number_in l) (map first_in l) (map count_in l))
 
 -- what a caller in another language is told
-abbrev pub report_of : Flattened → Report
+abbrev pub report_of : Flattening → Report
 report_of a = record { number = number_of a; place = place_of a; bytes = bytes_of a; bodies = bodies_of a }
 
--- ---- the work by value
+-- ---- the work in columns
 
 -- the room that counts: no patch has more marks than "256 Function marks"
-unfoldable pub room_of : ℕ → ℕ
-room_of n = cond (ltb n most_marks) n most_marks
+abbrev pub room_of : ℕ → ℕ
+room_of n = min n most_marks
 
 -- one entry, and the first n
 abbrev pub entry_of : List ℕ → List ℕ → List ℕ → ℕ → Body

@@ -1,6 +1,6 @@
 -- Flattening: "each function's own ops in order of marks, then main; a nested function is its own body". Bodies are named by the Rust's
 -- number and one, so that main's (-1) is 0. Assumes nothing.
-use Rattle.std.specs.Prelude.{ℕ, zero, suc, ◌+◌, ◌-◌, Bool, false, cond, ◌||◌, List, [], ◌∷◌, ◌++◌, eqb, length}
+use Rattle.std.specs.Prelude.{ℕ, zero, suc, ◌+◌, ◌-◌, Bool, false, cond, ◌||◌, List, [], ◌∷◌, ◌++◌, map, eqb, length}
 use Rattle.ops.specs.Syntax.{Op, Control, is_function}
 use Rattle.ops.specs.Syntax.Control.{function, call, ret, while, if, else, end}
 use Rattle.ops.specs.Syntax.Op.{control, set, load, plain}
@@ -46,8 +46,7 @@ abbrev pub fresh : ℕ → List ℕ → ℕ
 fresh b seen = cond (has (suc b) seen) (suc (length seen)) (suc b)
 
 abbrev pub notes : List Op → List Note
-notes [] = []
-notes (o ∷ os) = note o ∷ notes os
+notes os = map note os
 
 -- from the op at place p on: m brackets are open in the body b, st has the bodies around it with theirs, and seen the bodies with an op.
 -- "An End with no open bracket is 10; unclosed ones are kept"

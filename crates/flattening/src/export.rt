@@ -4,7 +4,8 @@ ghost use Rattle.flattening.specs.Entries.{report_of, flatten_to};
 
 use crate::body::Body;
 use crate::flatten::flatten;
-use answers::flatten::{Flattened, bodies_of, bytes_of, number_of, place_of};
+use answers::flatten::{FlattenError, Flattened, bodies_of, bytes_of};
+use answers::numbered::Numbered;
 
 // The number given back with its place; the bytes and the entries that were written.
 #[repr(C)]
@@ -16,28 +17,25 @@ pub struct Report {
     pub bodies: usize,
 }
 
-fn report_of(answer: Flattened) -> Report
-    ensures { result ≡ report_of answer }
-{
-    Report {
-        number: number_of(answer),
-        place: place_of(answer),
-        bytes: bytes_of(answer),
-        bodies: bodies_of(answer),
+impl From<Result<Flattened, FlattenError>> for Report {
+    ghost from_gives = { λ answer report. report ≡ report_of answer };
+
+    fn from(answer: Result<Flattened, FlattenError>) -> Report {
+        Report {
+            number: answer.number(),
+            place: answer.place(),
+            bytes: bytes_of(answer),
+            bodies: bodies_of(answer),
+        }
     }
 }
 
-// `flatten`, with a report as its answer.
+// `flatten`, with a report as its answer. The archive's call of this name, in `linked`, hands it on: an archive has the exports of its own crate alone.
 #[unsafe(no_mangle)]
-pub extern "C" fn feltcairn_flatten<'p, 'o, 'a>(
-    bytes: &'p [u8],
-    out: &'o mut [u8],
-    bodies: &'a mut [Body],
-) -> Report
+pub extern "C" fn feltcairn_flatten(bytes: &[u8], out: &mut [u8], bodies: &mut [Body]) -> Report
     ensures { (result ≡ report_of (flatten_to bytes.now out.old bodies.old).answer)
         × ((out.new ≡ (flatten_to bytes.now out.old bodies.old).out)
         × (bodies.new ≡ (flatten_to bytes.now out.old bodies.old).bodies)) }
 {
-    let answer = flatten(bytes, out, bodies);
-    report_of(answer)
+    Report::from(flatten(bytes, out, bodies))
 }

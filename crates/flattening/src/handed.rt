@@ -3,13 +3,13 @@ ghost use Rattle.std.specs.Prelude.{◌≡◌};
 ghost use Rattle.flattening.specs.Handed.{handed, flatten_patch_of};
 
 use crate::numbers::flatten_numbers;
-use answers::flatten::{Flattened, bytes_of};
+use answers::flatten::{FlattenError, Flattened, bytes_of};
 use partners::patch::{Patch, read};
 
 // What flattening answers, and the patch as it is read of the written bytes; of no bytes where it was refused.
 #[derive(Drop)]
 pub struct FlattenedPatch {
-    pub answer: Flattened,
+    pub answer: Result<Flattened, FlattenError>,
     pub patch: Patch,
 }
 
@@ -24,7 +24,6 @@ pub fn flatten_patch(
     ensures { handed result out.new numbers.new firsts.new counts.new ≡ flatten_patch_of bytes.now out.old numbers.old firsts.old counts.old }
 {
     let answer = flatten_numbers(bytes, out, numbers, firsts, counts);
-    let length = bytes_of(answer);
-    let patch = read(&out[..length]);
+    let patch = read(&out[..bytes_of(answer)]);
     FlattenedPatch { answer, patch }
 }

@@ -1,130 +1,136 @@
 // The body that each op is in: main is 0, and a function's body is one more than the Rust's number for it.
-ghost use Rattle.std.specs.Prelude.{◌≡◌, [], ℕ, ◌≤◌, ◌<◌, length, take, replicate};
+ghost use Rattle.std.specs.Prelude.{◌≡◌, [], false, ℕ, ◌+◌, ◌≤◌, ◌<◌, length, take, replicate};
 ghost use Rattle.basics.specs.Limits.{most_ops};
+ghost use Rattle.answers.specs.declared.flatten.FlattenError.TheVariants.{NoOpenEnd as no_open_end};
 ghost use Rattle.flattening.specs.Flatten.{number};
-ghost use Rattle.flattening.specs.Scope.{leaving_of, here_of, new_of, open_after, body_after, row_notes, most_bodies, listed, told};
+ghost use Rattle.flattening.specs.Scope.{here_of, row_note, leads_to, place, stack_of, place_in, passed, Low, row_notes, most_bodies, listed, told};
 
-use basics::wide::{wide_byte, wide_short};
+use answers::flatten::FlattenError;
 use kind_table::bracket;
-use patch_reader::reader::{Read, mark_of};
+use patch_reader::reader::Read;
 
-// Every op has its body, or this op is an End with no open bracket.
-#[derive(Drop)]
-pub enum Numbering {
-    NoOpenEnd(usize),
-    Done,
+// An End with no open bracket: its op.
+#[derive(Clone, Copy, Debug, PartialEq, Eq)]
+pub struct NoOpenEnd {
+    pub op: usize,
 }
 
-// Main's body, and one for each op at most.
-impl Numbering {
-    pub const BODIES: usize = Read::OPS + 1;
-}
+impl From<NoOpenEnd> for FlattenError {
+    ghost from_gives = { λ end error. error ≡ no_open_end end.op };
 
-// 1 where an op of row k is an End that closes the body: none of the body's own brackets is open.
-pub fn leaving_of(k: usize, brackets: usize) -> usize
-    ensures { (result ≡ leaving_of k brackets) × (result ≤ 1) }
-{
-    if k == bracket::END {
-        if brackets == 0 {
-            return 1;
-        }
-        return 0;
+    fn from(end: NoOpenEnd) -> FlattenError {
+        FlattenError::NoOpenEnd { op: end.op }
     }
-    0
+}
+
+// The body of each op, and for each body whether it has an op.
+#[derive(Drop)]
+pub struct Numbering {
+    pub owner: [u16; Read::OPS],
+    pub seen: [bool; Numbering::BODIES],
+}
+
+// A body that was left where one in it was entered, and how many of its own brackets are open.
+#[derive(Clone, Copy)]
+struct Left {
+    body: u16,
+    brackets: u16,
+}
+
+// The open body and its open brackets, and the bodies around it, the innermost last: the first `depth` of an array, since memory is fixed.
+#[derive(Drop)]
+struct Scope {
+    body: usize,
+    brackets: usize,
+    depth: usize,
+    around: [Left; Numbering::BODIES],
 }
 
 // The body that an op of row k is in. A Function mark starts one: one after the enclosing number, or, if that is taken, the count of bodies so far.
-pub fn here_of(k: usize, body: usize, taken: usize, count: usize) -> usize
+#[tactic(auto, unfolding(crate::specs::Scope::here_of))]
+fn here_of(k: usize, body: usize, taken: bool, count: usize) -> usize
     requires { (body < most_ops) × (count < most_ops) }
     ensures { (result ≡ here_of k body taken count) × (result ≤ most_ops) }
 {
-    if k == bracket::FUNCTION {
-        if taken == 0 {
-            return body + 1;
+    if k != bracket::FUNCTION {
+        return body;
+    }
+    if taken { count + 1 } else { body + 1 }
+}
+
+impl Scope {
+    // Main, with nothing open.
+    fn main() -> Scope
+        ensures { (place_in result ≡ place 0 0 []) × Low 0 result }
+    {
+        Scope {
+            body: 0,
+            brackets: 0,
+            depth: 0,
+            around: [Left {
+                body: 0,
+                brackets: 0,
+            }; Numbering::BODIES],
         }
-        return count + 1;
     }
-    body
-}
 
-// 1 for a body that was not seen.
-pub fn new_of(seen: usize) -> usize
-    ensures { (result ≡ new_of seen) × (result ≤ 1) }
-{
-    if seen == 0 {
-        return 1;
-    }
-    0
-}
-
-// The brackets open after an op of row k in the body that goes on: `outer` are those of the body around.
-pub fn open_after(k: usize, brackets: usize, outer: usize) -> usize
-    requires { brackets ≤ most_ops }
-    ensures { result ≡ open_after k brackets outer }
-{
-    if k == bracket::FUNCTION {
-        return 0;
-    }
-    if k == bracket::WHILE {
-        return brackets + 1;
-    }
-    if k == bracket::IF {
-        return brackets + 1;
-    }
-    if k == bracket::END {
-        if brackets == 0 {
-            return outer;
+    // Past an op of row k in the body `here`; nowhere at an End with no open bracket.
+    #[tactic(auto, unfolding(crate::specs::Scope::row_note, crate::specs::Scope::leads_to))]
+    fn pass(&mut self, k: usize, here: usize) -> Option<()>
+        requires { Low most_ops self.old }
+        ensures value { passed result self.new ≡ leads_to (row_note k) here self.old.body self.old.brackets (stack_of self.old.depth self.old.around) }
+        ensures low { (i : ℕ) → Low i self.old → here ≤ i + 1 → Low (i + 1) self.new }
+    {
+        match k {
+            bracket::FUNCTION => {
+                self.around[self.depth] = Left {
+                    body: self.body as u16,
+                    brackets: self.brackets as u16,
+                };
+                self.depth += 1;
+                self.body = here;
+                self.brackets = 0;
+            }
+            bracket::WHILE | bracket::IF => {
+                self.brackets += 1;
+            }
+            bracket::END => {
+                if 0 < self.brackets {
+                    self.brackets -= 1;
+                } else {
+                    self.depth = self.depth.checked_sub(1)?;
+                    let outer = self.around[self.depth];
+                    self.body = usize::from(outer.body);
+                    self.brackets = usize::from(outer.brackets);
+                }
+            }
+            _ => {}
         }
-        return brackets - 1;
+        Some(())
     }
-    brackets
 }
 
-// The body that goes on after an op: `outer`, the one around, where the op closes its body.
-pub fn body_after(leaving: usize, here: usize, outer: usize) -> usize
-    ensures { result ≡ body_after leaving here outer }
-{
-    if leaving == 0 {
-        return here;
-    }
-    outer
+impl Numbering {
+    // Main's body, and one for each op at most.
+    pub const BODIES: usize = Read::OPS + 1;
 }
 
 // The body of each op, and a flag for each body that has an op. An op makes at most one body, so no number is above the op count.
-pub fn number_ops(
-    rows: &[u8],
-    owner: &mut [u16; Read::OPS],
-    seen: &mut [u8; Numbering::BODIES],
-) -> Numbering
-    requires { (length rows.now ≤ most_ops) × ((length owner.old ≡ most_ops) × (seen.old ≡ replicate most_bodies 0)) }
-    ensures seen_after { told result (take (length rows.now) owner.new) (listed 0 seen.new) ≡ number 0 0 0 [] [] (row_notes rows.now) }
-    ensures owner_len { (length owner.new ≡ most_ops) × (length seen.new ≡ most_bodies) }
+pub fn number_ops(rows: &[u8]) -> Result<Numbering, NoOpenEnd>
+    requires { length rows.now ≤ most_ops }
+    ensures { told result (length rows.now) ≡ number 0 0 0 [] [] (row_notes rows.now) }
 {
-    // what was left where each enclosing body was entered: its number and its open brackets
-    let mut around = [0u16; Numbering::BODIES];
-    let mut opens = [0u16; Numbering::BODIES];
-    let mut body: usize = 0;
-    let mut brackets: usize = 0;
-    let mut depth: usize = 0;
+    let mut owner = [0u16; Read::OPS];
+    let mut seen = [false; Numbering::BODIES];
+    let mut scope = Scope::main();
     let mut count: usize = 0;
-    let mut i: usize = 0;
-    while i < rows.len() {
-        let k = wide_byte(rows[i]);
-        let leaving = leaving_of(k, brackets);
-        if depth < leaving {
-            return Numbering::NoOpenEnd(i);
-        }
-        let taken = wide_byte(seen[body + 1]);
-        let here = here_of(k, body, taken, count);
-        count += new_of(wide_byte(seen[here]));
+    for (i, &row) in rows.iter().enumerate() {
+        let k = usize::from(row);
+        let here = here_of(k, scope.body, seen[scope.body + 1], count);
+        scope.pass(k, here).ok_or(NoOpenEnd { op: i })?;
+        count += usize::from(!seen[here]);
         owner[i] = here as u16;
-        seen[here] = 1;
-        around[depth] = body as u16;
-        opens[depth] = brackets as u16;
-        depth = depth + mark_of(k) - leaving;
-        body = body_after(leaving, here, wide_short(around[depth]));
-        brackets = open_after(k, brackets, wide_short(opens[depth]));
-        i += 1;
+        seen[here] = true;
     }
-    Numbering::Done
+    Ok(Numbering { owner, seen })
 }
