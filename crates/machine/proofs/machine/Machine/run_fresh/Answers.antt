@@ -1,7 +1,6 @@
 -- `machine::machine::Machine::run_fresh` meets its contract. Assumes nothing.
 use mathlib.Core.Path.{◌∙◌, sym, ap}
 use mathlib.Core.Bool.{not}
-use native.Mathlib.Omega.{arith}
 use Rattle.ops.specs.Patch.{row_in, count_in, need_in, payload_in}
 use Rattle.file_laws.proofs.Loaded.{part_fits, part_length}
 use Rattle.states.proofs.WellFormed.{starts}

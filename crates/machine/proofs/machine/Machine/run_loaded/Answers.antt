@@ -1,7 +1,6 @@
 -- `machine::machine::Machine::run_loaded` meets its contract. Assumes nothing.
 use mathlib.Core.Path.{refl}
-use native.Mathlib.Omega.{arith}
-use Rattle.partners.proofs.Lent.{start_many, start_fits, end_long, many_partners, many_turns}
+use Rattle.partners.proofs.Lent.{start_many, start_fits, many_partners, many_turns}
 use Rattle.machine.proofs.Called.{rows_few, marks_few, is_read}
 use borrow.Author.Rules.{rules}
 use Rattle.machine.proofs.machine.Machine.run_loaded.Goals as goal
