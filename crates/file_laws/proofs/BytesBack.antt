@@ -11,7 +11,7 @@ use Rattle.ops.specs.Write.{value_bytes, Below}
 
 -- ---- numbers
 
-byte_below : (s : List ℕ) (i : ℕ) → Below 256 s → get_or s i 0 < 256
+pub byte_below : (s : List ℕ) (i : ℕ) → Below 256 s → get_or s i 0 < 256
 byte_below [] i w = omega arith
 byte_below (x ∷ s) zero w = w.0
 byte_below (x ∷ s) (suc i) w = byte_below s i w.1
@@ -43,7 +43,7 @@ le32_low a b =
     ap₂ (λ (l r : List ℕ). l ++ r) (ap le16 x ∙ le16_low a (65536 * b)) (ap le16 y ∙ le16_low (a / 65536) b)
 
 module _ (s : List ℕ) (w : Below 256 s) where
-  small16 : (i : ℕ) → u16_at s i < 65536
+  pub small16 : (i : ℕ) → u16_at s i < 65536
   small16 i = omega (arith, byte_below s i w, byte_below s (i + 1) w)
 
   pub back16 : (i : ℕ) → i + 2 ≤ length s → le16 (u16_at s i) ≡ text_at s i 2

@@ -7,6 +7,7 @@ use borrow.Author.Tests.{lt-ltb}
 use lib.ListN.{length, replicate, length-replicate}
 use Rattle.ops.specs.declared.op.Mode.TheVariants.{Char, Int, Other}
 use Rattle.ops.specs.declared.op.Binding.TheVariants.{SquareRoot, Add}
+use Rattle.std.proofs.Common.{Result, Ok, Err}
 use Rattle.byte_fields.specs.Bytes.{values_at, text_at}
 use Rattle.kind_table.specs.Kinds.{kind_at, index_of}
 use Rattle.ops.specs.Refusals.{number_of}
@@ -20,13 +21,14 @@ use Rattle.patch_reader.specs.Answer.{read_of, refused_at}
 use Rattle.ops.specs.Decode.{rows, row_at, op_at, ops_of}
 use Rattle.ops.specs.Decode.Patch.{ops, refused}
 use Rattle.ops.specs.Write.{encode_all}
-use Rattle.patch_reader.specs.declared.reader.Read.{Read}
+use Rattle.patch_reader.specs.declared.reader.Unread.{Unread}
 use Rattle.file_laws.proofs.Crowded.{ends, functions}
 
-abbrev read : ℕ → ℕ → ℕ → Read
-read n p o = record { number = n; place = p; ops = o }
+-- a refusal's number and place, and the ops before it
+abbrev not_read : ℕ → ℕ → ℕ → Result ℕ Unread
+not_read n p o = Err (record { number = n; place = p; ops = o })
 
-abbrev answer : List ℕ → Read
+abbrev answer : List ℕ → Result ℕ Unread
 answer s = read_of (patch_of s)
 
 -- "Whole file for `set [1]`, `put` char"
@@ -108,13 +110,13 @@ limits =
     walk (2 ∷ 0 ∷ 0 ∷ 0 ∷ 2 ∷ 0 ∷ []) 0 256 0 ∷
     []
 
-abbrev answers : List Read
+abbrev answers : List (Result ℕ Unread)
 answers =
-    read 1 0 0 ∷ read 1 0 0 ∷ read 2 0 0 ∷ read 2 0 0 ∷ read 3 0 0 ∷ read 4 0 0 ∷ read 4 0 0 ∷ read 5 0 0 ∷ read 6 0 0 ∷ read 6 6 1 ∷
-    read 2 0 0 ∷ read 1 0 0 ∷ read 3 0 0 ∷ read 4 0 0 ∷ read 2 0 0 ∷ read 2 0 0 ∷ read 6 0 0 ∷
-    read 2 0 0 ∷ read 0 1 1 ∷ read 2 0 0 ∷ read 5 0 0 ∷ read 0 1 1 ∷
-    read 2 0 0 ∷ read 2 0 0 ∷ read 6 0 0 ∷
-    read 7 6 1 ∷ read 3 0 0 ∷ read 8 0 0 ∷ read 0 1 1 ∷ read 7 0 0 ∷
+    not_read 1 0 0 ∷ not_read 1 0 0 ∷ not_read 2 0 0 ∷ not_read 2 0 0 ∷ not_read 3 0 0 ∷ not_read 4 0 0 ∷ not_read 4 0 0 ∷ not_read 5 0 0 ∷ not_read 6 0 0 ∷ not_read 6 6 1 ∷
+    not_read 2 0 0 ∷ not_read 1 0 0 ∷ not_read 3 0 0 ∷ not_read 4 0 0 ∷ not_read 2 0 0 ∷ not_read 2 0 0 ∷ not_read 6 0 0 ∷
+    not_read 2 0 0 ∷ Ok 1 ∷ not_read 2 0 0 ∷ not_read 5 0 0 ∷ Ok 1 ∷
+    not_read 2 0 0 ∷ not_read 2 0 0 ∷ not_read 6 0 0 ∷
+    not_read 7 6 1 ∷ not_read 3 0 0 ∷ not_read 8 0 0 ∷ Ok 1 ∷ not_read 7 0 0 ∷
     []
 
 computed : map answer files ++ map read_of limits ≡ answers
@@ -124,14 +126,14 @@ computed = refl
 -- 01's numbers 1 to 8 together: 4,097 Ends and 257 marks are smallest files for 7 and 8
 pub refusals :
     map answer (encode_all (replicate 4097 (control end)) ∷ encode_all (replicate 257 (control function)) ∷ files) ++ map read_of limits
-    ≡ read 7 24576 4096 ∷ read 8 1536 256 ∷ answers
+    ≡ not_read 7 24576 4096 ∷ not_read 8 1536 256 ∷ answers
 unfolding refused_at number_of
-refusals = ap₂ (λ (x y : Read). x ∷ y ∷ (map answer files ++ map read_of limits)) ends functions ∙ ap (λ (l : List Read). read 7 24576 4096 ∷ read 8 1536 256 ∷ l) computed
+refusals = ap₂ (λ (x y : Result ℕ Unread). x ∷ y ∷ (map answer files ++ map read_of limits)) ends functions ∙ ap (λ (l : List (Result ℕ Unread)). not_read 7 24576 4096 ∷ not_read 8 1536 256 ∷ l) computed
 
 -- every longer file is 9 at 0, whatever its records; so is one of 65,537 bytes
-pub longer : (s : List ℕ) → 65536 < length s → answer s ≡ read 9 0 0
+pub longer : (s : List ℕ) → 65536 < length s → answer s ≡ not_read 9 0 0
 unfolding patch_of read_of number_of
 longer s h = simp (lt-ltb _ _ h)
 
-pub too_long : answer (replicate 65537 0) ≡ read 9 0 0
+pub too_long : answer (replicate 65537 0) ≡ not_read 9 0 0
 too_long = longer (replicate 65537 0) (omega (arith, length-replicate {A = ℕ} 65537 0))

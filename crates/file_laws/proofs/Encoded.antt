@@ -16,7 +16,8 @@ use Rattle.ops.specs.declared.op.Mode.TheVariants.{Char, Int, Other}
 use Rattle.ops.specs.declared.op.Binding.{Binding}
 use Rattle.ops.specs.declared.op.Binding.TheVariants as binding
 use Rattle.byte_fields.specs.Bytes.{u16_at, u32_at, u64_at, le16, le32, le64}
-use Rattle.kind_table.specs.Kinds.{shape, kind_at, index_of}
+use Rattle.kind_table.specs.Kinds.{shape, left_out, kind_at, index_of}
+use Rattle.kind_table.specs.declared.shape.Shape.TheVariants.{Empty, LaneCount}
 use Rattle.ops.specs.Record.{length_ok, count_of, named_of, last_of}
 use Rattle.ops.specs.Syntax.{Control, Plain, Op, kind_of}
 use Rattle.ops.specs.Syntax.Control.{function, call, ret, while, if, else, end}
@@ -118,7 +119,7 @@ known (plain q) = plain_known q
 
 -- the payload that stands at byte p of s passes the tests of a record, counts what the op counts, and gives the op back
 pub record Reads (s : List ℕ) (p : ℕ) (o : Op) : Type 0 where
-  pub kept : eqb (shape (rule o)) 7 ≡ false
+  pub kept : left_out (shape (rule o)) ≡ false
   pub long : length_ok (shape (rule o)) (length (payload_of o)) ≡ true
   pub size : length (payload_of o) ≤ 8192
   pub counts : count_of s (shape (rule o)) p (length (payload_of o)) ≡ op_count o
@@ -160,7 +161,7 @@ length_bytes [] = refl
 length_bytes (v ∷ vs) = omega (arith, length-append (le64 v) (value_bytes vs), length_le64 v, length_bytes vs)
 
 module _ (s : List ℕ) (p : ℕ) where
-  none : (o : Op) → shape (rule o) ≡ 0 → payload_of o ≡ [] → op_count o ≡ 0 → op_with s p (op_count o) o ≡ o → Reads s p o
+  none : (o : Op) → shape (rule o) ≡ Empty → payload_of o ≡ [] → op_count o ≡ 0 → op_with s p (op_count o) o ≡ o → Reads s p o
   unfolding length_ok count_of named_of last_of
   none o e f g h = record {
     kept = rw e refl;
@@ -173,7 +174,7 @@ module _ (s : List ℕ) (p : ℕ) where
     back = h;
   }
 
-  count : (o : Op) (t : List ℕ) → shape (rule o) ≡ 3 → payload_of o ≡ le32 (op_count o) → op_count o ≤ 1024
+  count : (o : Op) (t : List ℕ) → shape (rule o) ≡ LaneCount → payload_of o ≡ le32 (op_count o) → op_count o ≤ 1024
       → drop p s ≡ payload_of o ++ t → (u32_at s p ≡ op_count o → op_with s p (op_count o) o ≡ o) → Reads s p o
   unfolding length_ok count_of named_of last_of le32 le16
   count o t e f g d h =
@@ -192,7 +193,7 @@ module _ (s : List ℕ) (p : ℕ) where
 
   -- a payload of two bytes that names the number k, a mode's or a binding's
   number : (o : Op) (k : ℕ) (t : List ℕ) → payload_of o ≡ le16 k → op_count o ≡ 0 → k < 65536
-      → eqb (shape (rule o)) 7 ≡ false → length_ok (shape (rule o)) 2 ≡ true → count_of s (shape (rule o)) p 2 ≡ 0 → named_of s (shape (rule o)) p ≡ u16_at s p
+      → left_out (shape (rule o)) ≡ false → length_ok (shape (rule o)) 2 ≡ true → count_of s (shape (rule o)) p 2 ≡ 0 → named_of s (shape (rule o)) p ≡ u16_at s p
       → k ≤ last_of (shape (rule o)) → eqb k 2 ≡ false
       → drop p s ≡ payload_of o ++ t → (u16_at s p ≡ k → op_with s p (op_count o) o ≡ o) → Reads s p o
   unfolding le16

@@ -8,7 +8,7 @@ use lib.Dec.{eqb, ltb}
 use lib.ListN.{length, get_or, take, drop, length-map}
 use borrow.Author.Tests.{leb-true, eqb-true, ltb-false}
 use Rattle.basics.proofs.Clash.{clash}
-use Rattle.byte_fields.specs.Bytes.{u16_at, u32_at, u64_at, values_at, text_at}
+use Rattle.byte_fields.specs.Bytes.{u32_at, u64_at, values_at, text_at}
 use Rattle.kind_table.specs.Kinds.{shape}
 use Rattle.ops.specs.Record.{length_ok, count_of}
 use Rattle.ops.specs.Refusals.{number_of}
@@ -20,6 +20,7 @@ use Rattle.ops.specs.Syntax.Plain.{comment, store, move, swap, locate, offset, d
 use Rattle.ops.specs.Syntax.Op.{control, set, load, plain}
 use Rattle.ops.specs.Write.{encode_all, Below, Fits, Each, mark_in, marks_in, AllFit}
 use Rattle.ops.specs.declared.refusals.Refusal.TheVariants.{FileTooLong}
+use Rattle.file_laws.proofs.BytesBack.{small16}
 use Rattle.file_laws.proofs.Encoded.{known}
 use Rattle.file_laws.proofs.Items as items
 use Rattle.file_laws.proofs.Items.{IsItem, Every, items_are, few_items, few_marks}
@@ -34,11 +35,6 @@ pub below_all : (s : List ℕ) → ((i : ℕ) → get_or s i 0 < 256) → Below 
 below_all [] h = tt
 below_all (x ∷ s) h = (h 0, below_all s (λ i. h (suc i)))
 
-below_at : (s : List ℕ) (i : ℕ) → Below 256 s → get_or s i 0 < 256
-below_at [] i w = omega arith
-below_at (x ∷ s) zero w = w.0
-below_at (x ∷ s) (suc i) w = below_at s i w.1
-
 below_drop : (n : ℕ) (s : List ℕ) → Below 256 s → Below 256 (drop n s)
 below_drop zero s w = w
 below_drop (suc n) [] w = tt
@@ -50,11 +46,8 @@ below_take (suc n) [] w = tt
 below_take (suc n) (x ∷ s) w = (w.0, below_take n s w.1)
 
 module _ (s : List ℕ) (w : Below 256 s) where
-  u16_below : (i : ℕ) → u16_at s i < 65536
-  u16_below i = omega (arith, below_at s i w, below_at s (i + 1) w)
-
   u32_below : (i : ℕ) → u32_at s i < 4294967296
-  u32_below i = omega (arith, u16_below i, u16_below (i + 2))
+  u32_below i = omega (arith, small16 s w i, small16 s w (i + 2))
 
   u64_below : (i : ℕ) → u64_at s i < 2 ^ 64
   u64_below i = omega (arith, u32_below i, u32_below (i + 4))

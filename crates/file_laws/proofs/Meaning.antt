@@ -1,13 +1,13 @@
 -- The items that are loaded are the file's ops: their rows, counts and needs are those of `op_at`. Assumes nothing.
 use mathlib.Core.Path.{◌≡◌, refl, ◌∙◌, sym, ap}
-use mathlib.Core.Bool.{cond}
 use mathlib.Core.List.{List, [], ◌∷◌, map}
 use Prim.Native.Nat.{ℕ, ◌+◌, ◌≤◌}
 use native.Mathlib.Omega.{arith}
 use borrow.Author.Tests.{eq-eqb, ne_eqb}
-use lib.Dec.{eqb}
 use lib.ListN.{length}
-use Rattle.kind_table.specs.Kinds.{shape, need, index_of, run_need}
+use Rattle.kind_table.specs.Kinds.{shape, need, lanes_asked, index_of, run_need}
+use Rattle.kind_table.specs.declared.shape.Shape.{Shape}
+use Rattle.kind_table.specs.declared.need.Need.{Need}
 use Rattle.ops.specs.Record.{count_of}
 use Rattle.ops.specs.Syntax.{Control, Plain, Op, kind_of, plain_kind, needs, needs_of, plain_needs}
 use Rattle.ops.specs.Syntax.Control.{function, call, ret, while, if, else, end}
@@ -33,10 +33,6 @@ unfolding ops_of
 refused_are s h = simp (ne_eqb (patch_of s).number 0 h)
 
 -- ---- what a payload leaves of an op as it was: its kind and its need
-
--- the lanes that a need column asks for in a run, where the op counts n
-abbrev asked : ℕ → ℕ → ℕ
-asked c n = cond (eqb c 1) 1 (cond (eqb c 2) n 0)
 
 module _ (s : List ℕ) (p n : ℕ) where
   plain_kind_lem : (q : Plain) → plain_kind (plain_with s p n q) ≡ plain_kind q
@@ -64,7 +60,7 @@ module _ (s : List ℕ) (p n : ℕ) where
   kind_with (load m) = refl
   kind_with (plain q) = plain_kind_lem q
 
-  control_need : (c : Control) → needs_of c ≡ asked (control_rule c) 0
+  control_need : (c : Control) → needs_of c ≡ lanes_asked (control_rule c) 0
   control_need function = refl
   control_need call = refl
   control_need ret = refl
@@ -73,7 +69,7 @@ module _ (s : List ℕ) (p n : ℕ) where
   control_need else = refl
   control_need end = refl
 
-  plain_need : (q : Plain) → plain_needs (plain_with s p n q) ≡ asked (need (plain_rule q)) (plain_count (plain_with s p n q))
+  plain_need : (q : Plain) → plain_needs (plain_with s p n q) ≡ lanes_asked (need (plain_rule q)) (plain_count (plain_with s p n q))
   plain_need (comment bs) = refl
   plain_need (store m) = refl
   plain_need (move v) = refl
@@ -92,7 +88,7 @@ module _ (s : List ℕ) (p n : ℕ) where
   plain_need alloc = refl
   plain_need free = refl
 
-  need_with : (o : Op) → needs (op_with s p n o) ≡ asked (need (rule o)) (op_count (op_with s p n o))
+  need_with : (o : Op) → needs (op_with s p n o) ≡ lanes_asked (need (rule o)) (op_count (op_with s p n o))
   need_with (control c) = control_need c
   need_with (set k vs) = refl
   need_with (load m) = refl
@@ -148,14 +144,14 @@ module _ (s : List ℕ) (i : Item) (h : IsItem s i) where
   its_count =
       let w : i.payload + h.len ≤ length s = omega (arith, told.size, told.within) in
       count_with s i.payload h.len i.count w (row_at i.row)
-      (told.counts ∙ ap (λ (c : ℕ). count_of s c i.payload h.len) its_row.shaped)
+      (told.counts ∙ ap (λ (c : Shape). count_of s c i.payload h.len) its_row.shaped)
 
   its_need : needs (op_at s i) ≡ need_in i
   unfolding op_at run_need
   its_need =
       need_with s i.payload i.count (row_at i.row)
-      ∙ ap (asked (need (rule (row_at i.row)))) its_count
-      ∙ ap (λ (c : ℕ). asked c i.count) (sym its_row.needed)
+      ∙ ap (lanes_asked (need (rule (row_at i.row)))) its_count
+      ∙ ap (λ (c : Need). lanes_asked c i.count) (sym its_row.needed)
 
   pub means : Means s i
   unfolding op_at

@@ -8,15 +8,15 @@ use borrow.Author.Tests.{ltb-false, eqb-true, le-ltb}
 use lib.Dec.{ltb, eqb}
 use lib.ListN.{length, drop, take-append-drop, drop_of_length-le}
 use lib.Seq.{drop-drop}
+use Rattle.std.proofs.Common.{Result, Ok, Err}
 use Rattle.basics.proofs.Clash.{clash}
 use Rattle.ops.specs.declared.refusals.Refusal.{Refusal}
-use Rattle.ops.specs.declared.refusals.Refusal.TheVariants.{CutShort, WrongLength, UnknownKind, LeftOut, TooManyLanes, WrongNumber, TooManyOps, TooManyMarks, FileTooLong}
+use Rattle.ops.specs.declared.refusals.Refusal.TheVariants.{TooManyOps, TooManyMarks, FileTooLong}
+use Rattle.ops.specs.declared.refusals.Fault.{Fault}
 use Rattle.ops.specs.declared.records.Record.{Record}
-use Rattle.ops.specs.declared.records.Record.TheVariants.{Whole, Bad}
 use Rattle.byte_fields.specs.Bytes.{u16_at, u32_at, text_at, le16, le32}
 use Rattle.kind_table.specs.Kinds.{shape, kind_at, index_of}
-use Rattle.ops.specs.Refusals.{number_of}
-use Rattle.ops.specs.Record.{record_at, length_ok, count_of, named_of, last_of}
+use Rattle.ops.specs.Record.{whole, record_at, length_ok, count_of, named_of, last_of}
 use Rattle.ops.specs.Syntax.{Plain, Op, kind_of}
 use Rattle.ops.specs.Syntax.Plain.{comment, store, move, swap, locate, offset, deref, refer, cell, lane, get, put, peek, poke, ffi_call, alloc, free}
 use Rattle.ops.specs.Syntax.Op.{control, set, load, plain}
@@ -28,6 +28,7 @@ use Rattle.byte_fields.proofs.TextAt.{length_text}
 use Rattle.file_laws.proofs.BytesBack.{text_add, back16, back32, back64, back_values}
 use Rattle.file_laws.proofs.Rows.{rule, row_rule}
 use Rattle.patch_reader.proofs.Whole.{tells}
+use Rattle.patch_reader.proofs.Reading.{numbered}
 use Rattle.file_laws.proofs.Meaning.{means}
 
 -- ---- the payload
@@ -122,7 +123,7 @@ one_number x y k e f h =
 -- ---- the record
 
 module _ (s : List ℕ) (w : Below 256 s) where
-  pub record_again : (p k b l n next : ℕ) → record_at s p ≡ Whole k b l n next → encode (op_at s (item k n b)) ≡ text_at s p (6 + l)
+  pub record_again : (p k b l n next : ℕ) → record_at s p ≡ whole k b l n next → encode (op_at s (item k n b)) ≡ text_at s p (6 + l)
   unfolding encode record_of op_at
   record_again p k b l n next e =
       let t = tells s p k b l n next e in
@@ -145,36 +146,24 @@ module _ (s : List ℕ) (w : Below 256 s) where
 
 -- ---- the file
 
-some_number : (r : Refusal) → number_of r ≡ 0 → ⊥
-unfolding number_of
-some_number CutShort e = omega arith
-some_number WrongLength e = omega arith
-some_number UnknownKind e = omega arith
-some_number LeftOut e = omega arith
-some_number TooManyLanes e = omega arith
-some_number WrongNumber e = omega arith
-some_number TooManyOps e = omega arith
-some_number TooManyMarks e = omega arith
-some_number FileTooLong e = omega arith
-
 module _ (s : List ℕ) (w : Below 256 s) where
   -- what was loaded from byte p on, with no refusal, is written as the rest of the file
   abbrev Again : ℕ → Loaded → Type 0
   Again p l = l.number ≡ 0 → encode_all (map (op_at s) l.items) ≡ drop p s
 
   refused_again : (p : ℕ) (r : Refusal) (q : ℕ) → Again p (stop r q)
-  refused_again p r q z = absurd (some_number r z)
+  refused_again p r q z = let t = rw z at (numbered r) in clash (cc)
 
   past_end : (b : Bool) (p : ℕ) (l : Loaded) → ltb p (length s) ≡ b → Again p l → Again p (cond b l (ending 0 0))
   unfolding encode_all
   past_end true p l e f z = f z
   past_end false p l e f z = sym (drop_of_length-le s (ltb-false p (length s) e))
 
-  full_again : (r : Record) (p : ℕ) → Again p (on_full r p)
-  full_again (Bad r q) p = refused_again p r q
-  full_again (Whole k b l n next) p = refused_again p TooManyOps p
+  full_again : (r : Result Record Fault) (p : ℕ) → Again p (on_full r p)
+  full_again (Err x) p = refused_again p x.refusal x.place
+  full_again (Ok w) p = refused_again p TooManyOps p
 
-  push_again : (t : Bool) (p k b l n next : ℕ) (rest : Loaded) → record_at s p ≡ Whole k b l n next → Again next rest
+  push_again : (t : Bool) (p k b l n next : ℕ) (rest : Loaded) → record_at s p ≡ whole k b l n next → Again next rest
       → Again p (cond t (stop TooManyMarks p) (push (item k n b) rest))
   unfolding encode_all text_at
   push_again true p k b l n next rest e f z = refused_again p TooManyMarks p z
@@ -184,10 +173,10 @@ module _ (s : List ℕ) (w : Below 256 s) where
       ap₂ (λ (x y : List ℕ). x ++ y) (record_again s w p k b l n next e) (f z ∙ ap (λ (j : ℕ). drop j s) q ∙ sym (drop-drop (6 + l) p s))
       ∙ take-append-drop (6 + l) (drop p s)
 
-  on_again : (r : Record) (p m : ℕ) (rest : ℕ → ℕ → Loaded) → record_at s p ≡ r → ((m p : ℕ) → Again p (rest m p)) → Again p (on_record r p m rest)
-  on_again (Bad r q) p m rest e f = refused_again p r q
-  on_again (Whole k b l n next) p m rest e f =
-      push_again (ltb 256 (m + mark_of k)) p k b l n next (rest (m + mark_of k) next) e (f (m + mark_of k) next)
+  on_again : (r : Result Record Fault) (p m : ℕ) (rest : ℕ → ℕ → Loaded) → record_at s p ≡ r → ((m p : ℕ) → Again p (rest m p)) → Again p (on_record r p m rest)
+  on_again (Err x) p m rest e f = refused_again p x.refusal x.place
+  on_again (Ok r) p m rest e f =
+      push_again (ltb 256 (m + mark_of r.row)) p r.row r.body r.len r.count r.next (rest (m + mark_of r.row) r.next) e (f (m + mark_of r.row) r.next)
 
   walk_again : (left m p : ℕ) → Again p (walk s left m p)
   walk_again zero m p = past_end (ltb p (length s)) p (on_full (record_at s p) p) refl (full_again (record_at s p) p)

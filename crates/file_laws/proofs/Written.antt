@@ -10,8 +10,7 @@ use lib.ListN.{length, take, drop, length-append, length-drop}
 use lib.Seq.{drop-append_seam, drop_at, length-take-le}
 use Rattle.byte_fields.specs.Bytes.{u16_at, u32_at, le16, le32}
 use Rattle.kind_table.specs.Kinds.{shape, kind_at, index_of}
-use Rattle.ops.specs.Record.{record_at, body_at, named_of, last_of}
-use Rattle.ops.specs.declared.records.Record.TheVariants.{Whole}
+use Rattle.ops.specs.Record.{whole, record_at, body_at, named_of, last_of}
 use Rattle.ops.specs.Syntax.{Op, kind_of}
 use Rattle.ops.specs.Patch.{Item, item}
 use Rattle.ops.specs.Decode.{op_at, op_count}
@@ -63,7 +62,7 @@ module _ (o : Op) (s : List ℕ) (p : ℕ) (t : List ℕ) (d : drop p s ≡ enco
     reads = payload_reads s (p + 6) o t f payload_part
 
     -- the record at p is whole
-    pub written : record_at s p ≡ Whole (index_of (kind_of o)) (p + 6) (length (payload_of o)) (op_count o) (p + 6 + length (payload_of o))
+    pub written : record_at s p ≡ whole (index_of (kind_of o)) (p + 6) (length (payload_of o)) (op_count o) (p + 6 + length (payload_of o))
     unfolding record_at body_at
     written =
         let r = reads in
@@ -91,7 +90,7 @@ module _ (o : Op) (s : List ℕ) (p : ℕ) (t : List ℕ) (d : drop p s ≡ enco
 
 -- a record that is written anywhere is read as its op
 pub record_back : (pre post : List ℕ) (o : Op) → Fits o
-    → (record_at (pre ++ (encode o ++ post)) (length pre) ≡ Whole (index_of (kind_of o)) (length pre + 6) (length (payload_of o)) (op_count o) (length pre + 6 + length (payload_of o)))
+    → (record_at (pre ++ (encode o ++ post)) (length pre) ≡ whole (index_of (kind_of o)) (length pre + 6) (length (payload_of o)) (op_count o) (length pre + 6 + length (payload_of o)))
     × (op_at (pre ++ (encode o ++ post)) (item_of o (length pre)) ≡ o)
 record_back pre post o f =
     let s = pre ++ (encode o ++ post) in
@@ -100,7 +99,7 @@ record_back pre post o f =
 
 -- what the writer leaves of lent bytes is read as the op
 pub placed_back : (out : List ℕ) (at : ℕ) (o : Op) → Fits o → at ≤ length out
-    → (record_at (placed out at (encode o)) at ≡ Whole (index_of (kind_of o)) (at + 6) (length (payload_of o)) (op_count o) (at + 6 + length (payload_of o)))
+    → (record_at (placed out at (encode o)) at ≡ whole (index_of (kind_of o)) (at + 6) (length (payload_of o)) (op_count o) (at + 6 + length (payload_of o)))
     × (op_at (placed out at (encode o)) (item_of o at) ≡ o)
 unfolding placed
 placed_back out at o f h =

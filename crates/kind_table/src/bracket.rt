@@ -1,4 +1,4 @@
-// The rows of the brackets, as places of the table.
+// The rows of the brackets, as places of the table; by `as`, since a constant's value may hold no call.
 use crate::row;
 
 pub const FUNCTION: usize = row::FUNCTION as usize;

@@ -1,5 +1,5 @@
 // The rows of the table of kinds, by the names of the Rust's ops: "Core kinds 0 to 39 follow `CoreOp`'s order", rows 0 to 39; "standard kinds 256 to 277",
-// rows 40 to 61.
+// rows 40 to 61. Numbers and no enum: a row is a place of the table, and a byte of a patch's column that a run reads at each step.
 pub const COMMENT: u8 = 0;
 
 pub const SET: u8 = 1;

@@ -1,2 +1,3 @@
 pub mod Whole
 pub mod Reading
+pub mod Mapped
