@@ -15,11 +15,10 @@ use Rattle.basics.proofs.Tests.{by_case}
 use Rattle.ops.specs.Syntax.Plain.{get, put, peek, poke, ffi_call}
 use Rattle.ops.specs.declared.op.Mode.{Mode}
 use Rattle.ops.specs.declared.op.Binding.{Binding}
-use Rattle.testing_device.specs.Device.{get_of, put_of, ring}
+use Rattle.std.specs.Prelude.{Some, None}
+use Rattle.testing_device.specs.Device.{Got, get_of, put_of, ring}
 use Rattle.testing_device.specs.Room.{put_in, placed}
 use Rattle.testing_device.specs.Channel.{is_ring, poke_in}
-use Rattle.testing_device.specs.declared.device.Got.{Got}
-use Rattle.testing_device.specs.declared.device.Got.TheVariants as got
 use Rattle.testing_device.proofs.Rings.{length_ring, ring_next, ring_drop, ring_poke, ring_same, ring_laid, peek_none, peek_some}
 use Rattle.standard_device.specs.Bindings.{inputs, result_of, call_in}
 use Rattle.standard_device.proofs.Values.{inputs_few}
@@ -37,8 +36,8 @@ use Rattle.bridge.proofs.Tape.{lane_went}
 
 module _ (g : Given) (c : Held) (h : Counted c) where
   got_is : 0 < c.numbers.lanes → (x : Got) → telling c (d.in_lanes c.channel c.output (d.gotten c.numbers c.register x)) ≡ laid c (gotten (view c) x)
-  got_is w got.Empty = refl
-  got_is w (got.Value v k) = lane_went g c h v c.numbers.length k w
+  got_is w None = refl
+  got_is w (Some t) = lane_went g c h t.value c.numbers.length t.at w
 
   pub get_is : (k : Mode) → 0 < c.numbers.lanes
       → telling c (d.in_lanes c.channel c.output (d.getting_of k c.numbers c.register g.input)) ≡ laid c (act g (get k) (view c))

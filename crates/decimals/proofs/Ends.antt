@@ -1,6 +1,5 @@
 -- Where values that have a property end: one more, none more, and no more than there are. Assumes nothing.
-use Rattle.std.proofs.Common.{◌≡◌, ℕ, zero, suc, ◌+◌, ◌%◌, ◌<◌, ◌≤◌, Bool, true, false, cond, not, leb, List, [], ◌∷◌, length, get_or, drop, sym, refl, ◌∙◌, le_of_suc-le-suc, not-suc-le-zero, add-zero, add-one, arith, length-drop, drop_of_length-le, drop-cons, leb-true}
-use borrow.Author.Tests.{not-true, not-false}
+use Rattle.std.proofs.Common.{◌≡◌, ℕ, zero, suc, ◌+◌, ◌%◌, ◌<◌, ◌≤◌, Bool, true, false, cond, leb, List, [], ◌∷◌, length, get_or, drop, sym, refl, ◌∙◌, le_of_suc-le-suc, not-suc-le-zero, add-zero, add-one, arith, length-drop, drop_of_length-le, drop-cons, leb-true, leb-false, max}
 use Rattle.basics.proofs.Tests.{by_case, and_left, and_right}
 use Rattle.decimals.specs.Chars.{is_digit, leading, past}
 
@@ -24,11 +23,18 @@ module _ (p : ℕ → Bool) (l : List ℕ) (i x : ℕ) (inv : past p l i ≡ x) 
   ended h = sym (sym inv ∙ rw (leading_end p l i h) (add-zero i))
 
   module _ (h : i < length l) (t : Bool) (e : t ≡ p (get_or l i 0)) where
-    pub stopped : not t ≡ true → i ≡ x
-    stopped n = sym (sym inv ∙ rw (leading_stop p l i h (sym e ∙ not-true t n)) (add-zero i))
+    pub stopped : t ≡ false → i ≡ x
+    stopped n = sym (sym inv ∙ rw (leading_stop p l i h (sym e ∙ n)) (add-zero i))
 
-    pub further : not t ≡ false → past p l (i + 1) ≡ x
-    further n = omega (arith, inv, leading_more p l i h (sym e ∙ not-false t n))
+    pub further : t ≡ true → past p l (i + 1) ≡ x
+    further n = omega (arith, inv, leading_more p l i h (sym e ∙ n))
+
+-- none was left that has not the property: the loop has come to the end, or began beyond it
+pub last : (p : ℕ → Bool) (l : List ℕ) (i at : ℕ) → past p l i ≡ past p l at → at ≤ i → (at ≤ length l → i ≤ length l) → length l ≤ i → max at (length l) ≡ past p l at
+last p l i at e a b h =
+    by_case (leb at (length l))
+    (λ t. let k = leb-true at (length l) t in omega (arith, ended p l i (past p l at) e h, b k))
+    (λ t. let k = leb-false at (length l) t in omega (arith, leading_end p l at))
 
 pub leading_length : (p : ℕ → Bool) (l : List ℕ) → leading p l ≤ length l
 unfolding leading

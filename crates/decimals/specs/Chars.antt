@@ -1,5 +1,5 @@
 -- Which values of the input are spaces and which are digits, and where they end. Assumes nothing.
-use Rattle.std.specs.Prelude.{ℕ, suc, ◌+◌, ◌%◌, Bool, cond, ◌&&◌, ◌||◌, List, [], ◌∷◌, drop, ◌==◌, nat_le}
+use Rattle.std.specs.Prelude.{◌≡◌, ℕ, suc, ◌+◌, ◌%◌, Bool, cond, ◌&&◌, ◌||◌, List, [], ◌∷◌, drop, ◌==◌, nat_le}
 
 -- "Int input skips space, tab, LF, FF, CR, takes values modulo 256"
 abbrev pub is_space : ℕ → Bool
@@ -16,3 +16,7 @@ leading p (v ∷ vs) = let r = leading p vs in cond (p v) (suc r) 0
 -- the place after the values from place i on that have it
 abbrev pub past : (ℕ → Bool) → List ℕ → ℕ → ℕ
 past p l i = i + leading p (drop i l)
+
+-- each answer that a call of a test may give is p's
+abbrev pub Decides : (ℕ → Bool → Type 0) → (ℕ → Bool) → Type 0
+Decides post p = (v : ℕ) (t : Bool) → post v t → t ≡ p v

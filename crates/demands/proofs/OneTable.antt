@@ -12,8 +12,9 @@ use Rattle.ops.specs.Syntax.Control.{function, call, ret, while, if, end}
 use Rattle.ops.specs.Syntax.Plain.{comment, move, deref, refer, store, put, get, alloc, cell, lane}
 use Rattle.ops.specs.Syntax.Op.{control, load, plain}
 use Rattle.testing_device.specs.Channel.{peek_of, poke_in}
+use Rattle.std.specs.Prelude.{Result, Ok, Err}
 use Rattle.testing_device.specs.declared.device.Peeked.{Peeked}
-use Rattle.testing_device.specs.declared.device.Peeked.TheVariants as peeked
+use Rattle.testing_device.specs.declared.device.PeekError.{PeekError}
 use Rattle.machine_model.specs.State.{given, rust_table, by_mark, fresh, lane0}
 use Rattle.machine_model.specs.Run.{Answer, run}
 use Rattle.busy.specs.Sums.{raised}
@@ -70,10 +71,9 @@ sent channel first waiting [] = channel
 sent channel first waiting (v ∷ vs) = sent (poke_in v channel first waiting).channel first (suc waiting) vs
 
 -- a value that was taken, and what follows it
-before : Peeked → (ℕ → ℕ → List ℕ) → List ℕ
-before (peeked.Value v first waiting) rest = v ∷ rest first waiting
-before peeked.Empty rest = []
-before peeked.NotARing rest = []
+before : Result Peeked PeekError → (ℕ → ℕ → List ℕ) → List ℕ
+before (Ok p) rest = p.value ∷ rest p.first p.waiting
+before (Err e) rest = []
 
 -- so many values taken from a ring, then its first place and how many wait
 show_ring : ℕ → List ℕ → ℕ → ℕ → List ℕ

@@ -1,5 +1,5 @@
 -- Get, Put, Peek, Poke and FFI Call on the machine's numbers: "21, then theirs". g is the register, ch the channel, o the output. Assumes nothing.
-use Rattle.std.specs.Prelude.{List, ℕ, get_or, set, eqb}
+use Rattle.std.specs.Prelude.{List, ℕ, get_or, set, eqb, Option, Some, None, Result, Ok, Err}
 use Rattle.basics.specs.Pick.{pick}
 use Rattle.kind_table.specs.Rows as row
 use Rattle.byte_fields.specs.Bytes.{u16_at}
@@ -10,32 +10,28 @@ use Rattle.testing_device.specs.Device.{get_of, put_of}
 use Rattle.testing_device.specs.Room.{put_in}
 use Rattle.testing_device.specs.Channel.{peek_of, poke_in}
 use Rattle.testing_device.specs.Answers.{got_number, put_number, peeked_number, poked_number}
-use Rattle.testing_device.specs.declared.device.Got.{Got}
-use Rattle.testing_device.specs.declared.device.Got.TheVariants as got
-use Rattle.testing_device.specs.declared.device.Put.{Put}
-use Rattle.testing_device.specs.declared.device.Put.TheVariants as put
+use Rattle.testing_device.specs.declared.device.Taken.{Taken}
 use Rattle.testing_device.specs.declared.device.Peeked.{Peeked}
-use Rattle.testing_device.specs.declared.device.Peeked.TheVariants as peeked
-use Rattle.testing_device.specs.declared.device.Poked.{Poked}
-use Rattle.testing_device.specs.declared.device.Poked.TheVariants as poked
+use Rattle.testing_device.specs.declared.device.PeekError.{PeekError}
+use Rattle.testing_device.specs.declared.device.PokeError.{PokeError}
 use Rattle.standard_device.specs.Bindings.{called_number, call_in}
-use Rattle.standard_device.specs.declared.bindings.Called.{Called}
-use Rattle.standard_device.specs.declared.bindings.Called.TheVariants as called
+use Rattle.standard_device.specs.declared.bindings.Sent.{Sent}
+use Rattle.standard_device.specs.declared.bindings.CallError.{CallError}
 use Rattle.machine_numbers.specs.Numbers.{of_ring, of_taken, of_written, next, answered, OneList, one_list, Told, told, OpAnswer}
 use Rattle.machine_numbers.specs.declared.numbers.Numbers.{Numbers}
 
 -- a value got goes to lane 0; 35 where the input is empty
-abbrev pub gotten : Numbers → List ℕ → Got → OneList
-gotten p g (got.Value v at) = one_list (answered 0 (next (of_taken p at))) (set g 0 v)
-gotten p g got.Empty = one_list (answered (got_number got.Empty) p) g
+abbrev pub gotten : Numbers → List ℕ → Option Taken → OneList
+gotten p g (Some t) = one_list (answered 0 (next (of_taken p t.at))) (set g 0 t.value)
+gotten p g None = one_list (answered (got_number None) p) g
 
 unfoldable pub getting_of : Mode → Numbers → List ℕ → List ℕ → OneList
 getting_of m p g input = gotten p g (get_of m input p.taken)
 
 -- the output count after a Put; 36 where there is no room
-abbrev pub putting : Numbers → Put → OpAnswer
-putting p (put.Written n) = answered 0 (next (of_written p n))
-putting p put.NoRoom = answered (put_number put.NoRoom) p
+abbrev pub putting : Numbers → Option ℕ → OpAnswer
+putting p (Some n) = answered 0 (next (of_written p n))
+putting p None = answered (put_number None) p
 
 unfoldable pub putting_of : Mode → Numbers → List ℕ → List ℕ → OneList
 putting_of m p g o =
@@ -43,19 +39,17 @@ putting_of m p g o =
     one_list (putting p l.answer) l.output
 
 -- a value peeked goes to lane 0; 33 where the channel is empty; 37 where it is no ring
-abbrev pub peeking : Numbers → List ℕ → Peeked → OneList
-peeking p g (peeked.Value v f w) = one_list (answered 0 (next (of_ring p f w))) (set g 0 v)
-peeking p g peeked.Empty = one_list (answered (peeked_number peeked.Empty) p) g
-peeking p g peeked.NotARing = one_list (answered (peeked_number peeked.NotARing) p) g
+abbrev pub peeking : Numbers → List ℕ → Result Peeked PeekError → OneList
+peeking p g (Ok t) = one_list (answered 0 (next (of_ring p t.first t.waiting))) (set g 0 t.value)
+peeking p g (Err e) = one_list (answered (peeked_number (Err e)) p) g
 
 unfoldable pub peeking_of : Numbers → List ℕ → List ℕ → OneList
 peeking_of p g ch = peeking p g (peek_of ch p.first p.waiting)
 
 -- the channel's count after a Poke; 34 where it is full; 37 where it is no ring
-abbrev pub poking : Numbers → Poked → OpAnswer
-poking p (poked.Sent w) = answered 0 (next (of_ring p p.first w))
-poking p poked.Full = answered (poked_number poked.Full) p
-poking p poked.NotARing = answered (poked_number poked.NotARing) p
+abbrev pub poking : Numbers → Result ℕ PokeError → OpAnswer
+poking p (Ok w) = answered 0 (next (of_ring p p.first w))
+poking p (Err e) = answered (poked_number (Err e)) p
 
 unfoldable pub poking_of : Numbers → List ℕ → List ℕ → OneList
 poking_of p g ch =
@@ -63,10 +57,9 @@ poking_of p g ch =
     one_list (poking p h.answer) h.channel
 
 -- the ring after an FFI Call; 33 where too few values wait; 37 where it is no ring
-abbrev pub calling : Numbers → Called → OpAnswer
-calling p (called.Sent f w) = answered 0 (next (of_ring p f w))
-calling p called.TooFew = answered (called_number called.TooFew) p
-calling p called.NotARing = answered (called_number called.NotARing) p
+abbrev pub calling : Numbers → Result Sent CallError → OpAnswer
+calling p (Ok t) = answered 0 (next (of_ring p t.first t.waiting))
+calling p (Err e) = answered (called_number (Err e)) p
 
 unfoldable pub calling_of : Binding → Numbers → List ℕ → OneList
 calling_of b p ch =

@@ -7,21 +7,20 @@ ghost use Rattle.device_ops.specs.Device.{getting_of, putting_of, peeking_of, po
 
 use machine_numbers::numbers::DONE;
 use ops::op::{Binding, Mode};
-use standard_device::bindings::Called;
-use testing_device::device::{Got, Peeked, Poked, Put};
+use standard_device::bindings::CallError;
+use testing_device::device::{PeekError, PokeError};
 
 pub fn get(mode: Mode, taken: &mut usize, register: &mut [u64], input: &[u64]) -> u32
     requires { limit.lanes ≤ length register.old }
     ensures { (p : Numbers) → one_list (onward result (of_taken p taken.new)) register.new ≡ getting_of mode (of_taken p taken.old) register.old input.now }
 {
-    let t = *taken;
-    match testing_device::input::get(mode, input, t) {
-        Got::Value(v, at) => {
-            register[0] = v;
-            *taken = at;
+    match testing_device::input::get(mode, input, *taken) {
+        Some(got) => {
+            register[0] = got.value;
+            *taken = got.at;
             DONE
         }
-        Got::Empty => 35,
+        None => 35,
     }
 }
 
@@ -29,14 +28,12 @@ pub fn put(mode: Mode, written: &mut usize, register: &[u64], output: &mut [u64]
     requires { limit.lanes ≤ length register.now }
     ensures { (p : Numbers) → one_list (onward result (of_written p written.new)) output.new ≡ putting_of mode (of_written p written.old) register.now output.old }
 {
-    let w = *written;
-    let v = register[0];
-    match testing_device::output::put(mode, v, output, w) {
-        Put::Written(n) => {
-            *written = n;
+    match testing_device::output::put(mode, register[0], output, *written) {
+        Some(count) => {
+            *written = count;
             DONE
         }
-        Put::NoRoom => 36,
+        None => 36,
     }
 }
 
@@ -44,17 +41,15 @@ pub fn peek(first: &mut usize, waiting: &mut usize, register: &mut [u64], channe
     requires { limit.lanes ≤ length register.old }
     ensures { (p : Numbers) → one_list (onward result (of_ring p first.new waiting.new)) register.new ≡ peeking_of (of_ring p first.old waiting.old) register.old channel.now }
 {
-    let f = *first;
-    let w = *waiting;
-    match testing_device::channel::peek(channel, f, w) {
-        Peeked::Value(v, at, left) => {
-            register[0] = v;
-            *first = at;
-            *waiting = left;
+    match testing_device::channel::peek(channel, *first, *waiting) {
+        Ok(oldest) => {
+            register[0] = oldest.value;
+            *first = oldest.first;
+            *waiting = oldest.waiting;
             DONE
         }
-        Peeked::Empty => 33,
-        Peeked::NotARing => 37,
+        Err(PeekError::Empty) => 33,
+        Err(PeekError::NotARing) => 37,
     }
 }
 
@@ -62,15 +57,13 @@ pub fn poke(first: usize, waiting: &mut usize, register: &[u64], channel: &mut [
     requires { limit.lanes ≤ length register.now }
     ensures { (p : Numbers) → one_list (onward result (of_ring p first waiting.new)) channel.new ≡ poking_of (of_ring p first waiting.old) register.now channel.old }
 {
-    let w = *waiting;
-    let v = register[0];
-    match testing_device::channel::poke(v, channel, first, w) {
-        Poked::Sent(left) => {
-            *waiting = left;
+    match testing_device::channel::poke(register[0], channel, first, *waiting) {
+        Ok(count) => {
+            *waiting = count;
             DONE
         }
-        Poked::Full => 34,
-        Poked::NotARing => 37,
+        Err(PokeError::Full) => 34,
+        Err(PokeError::NotARing) => 37,
     }
 }
 
@@ -82,15 +75,13 @@ pub fn ffi_call(
 ) -> u32
     ensures { (p : Numbers) → one_list (onward result (of_ring p first.new waiting.new)) channel.new ≡ calling_of binding (of_ring p first.old waiting.old) channel.old }
 {
-    let f = *first;
-    let w = *waiting;
-    match standard_device::bindings::ffi_call(binding, channel, f, w) {
-        Called::Sent(at, left) => {
-            *first = at;
-            *waiting = left;
+    match standard_device::bindings::ffi_call(binding, channel, *first, *waiting) {
+        Ok(sent) => {
+            *first = sent.first;
+            *waiting = sent.waiting;
             DONE
         }
-        Called::TooFew => 33,
-        Called::NotARing => 37,
+        Err(CallError::TooFew) => 33,
+        Err(CallError::NotARing) => 37,
     }
 }

@@ -16,9 +16,8 @@ use Rattle.ops.specs.Syntax.{Op, Control, Plain, is_function, is_while}
 use Rattle.ops.specs.Syntax.Control.{function, call, ret, while, if, else, end}
 use Rattle.ops.specs.Syntax.Plain.{comment, store, move, swap, locate, offset, deref, refer, cell, lane, get, put, peek, poke, ffi_call, alloc, free}
 use Rattle.ops.specs.Syntax.Op.{control, set, load, plain}
-use Rattle.testing_device.specs.Device.{get_of}
-use Rattle.testing_device.specs.declared.device.Got.{Got}
-use Rattle.testing_device.specs.declared.device.Got.TheVariants.{Value, Empty}
+use Rattle.std.specs.Prelude.{Some, None}
+use Rattle.testing_device.specs.Device.{Got, get_of}
 use Rattle.machine_model.specs.State.{State, Given, given, rust_table, lane0, go_to, with_table, with_calls, on}
 use Rattle.machine_model.specs.Scan.{op_at}
 use Rattle.machine_model.specs.Step.{Outcome, lack, bar, pick, minus, enter, jump, end_of, routine, found, back, again, turn, refer_to, move_by, gotten, peek_at, act, exec, op, step}
@@ -68,8 +67,8 @@ module _ (f : ℕ → ℕ) where
     refer_sent (c ∷ cs) = cc
 
     get_sent : (v : Got) → gotten (placed f s) v ≡ sent f (gotten s v)
-    get_sent Empty = refl
-    get_sent (Value v place) = cc
+    get_sent None = refl
+    get_sent (Some t) = cc
 
     peek_sent : (vs : List ℕ) → peek_at (placed f s) vs ≡ sent f (peek_at s vs)
     peek_sent [] = refl

@@ -55,7 +55,7 @@ impl Machine {
 
     pub const REFS: usize = Numbers::REFS;
 
-    pub const CHANNEL: usize = testing_device::device::Poked::CHANNEL;
+    pub const CHANNEL: usize = testing_device::device::Peeked::CHANNEL;
 
     pub const POINTER: usize = Numbers::POINTER;
 

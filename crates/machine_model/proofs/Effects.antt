@@ -24,9 +24,9 @@ use Rattle.ops.specs.Syntax.Op.{control, set, load, plain}
 use Rattle.ops.specs.Write.{Below, Fits}
 use Rattle.ops.specs.declared.op.Mode.{Mode}
 use Rattle.ops.specs.declared.op.Mode.TheVariants.{Char, Int, Other}
-use Rattle.testing_device.specs.declared.device.Got.{Got}
-use Rattle.testing_device.specs.declared.device.Got.TheVariants.{Value, Empty}
-use Rattle.testing_device.specs.Device.{get_of, put_of, leading, int_from, char_from, is_space, is_digit}
+use Rattle.std.specs.Prelude.{Some, None}
+use Rattle.testing_device.specs.Device.{Got, get_of, put_of, leading, int_from, char_from, is_space, is_digit}
+use Rattle.testing_device.specs.declared.device.Taken.{Taken}
 use Rattle.testing_device.proofs.Words as device
 use Rattle.testing_device.proofs.Inputs.{Bounded, leading_length, get_bounded}
 use Rattle.testing_device.proofs.Inputs.Bounded.{value}
@@ -118,8 +118,8 @@ each_word (v ∷ vs) w = (w.at 0, each_word vs (device.words_tail v vs w))
 
 -- what Get gives has a place in the input
 abbrev Inside : ℕ → Got → Type 0
-Inside l Empty = Unit {0}
-Inside l (Value v p) = p ≤ l
+Inside l None = Unit {0}
+Inside l (Some t) = t.at ≤ l
 
 char_inside : (l at : ℕ) (vs : List ℕ) → length vs ≡ l - at → Inside l (char_from vs at)
 char_inside l at [] e = tt
@@ -134,8 +134,8 @@ get_inside Int input at h =
     omega (arith, leading_length is_space vs, length-drop at input, leading_length is_digit (drop a vs), length-drop a vs)
 get_inside Other input at h = h
 
-got_word : (l : List ℕ) (at v p : ℕ) → Bounded l at (Value v p) → Word v
-got_word l at _ _ (value v p h _ _) = h
+got_word : (l : List ℕ) (at : ℕ) (t : Taken) → Bounded l at (Some t) → Word t.value
+got_word l at _ (value v p h _ _) = h
 
 -- ---- what there is to say of a step
 
@@ -311,13 +311,13 @@ module _ (g : Given) (Q : ℕ → Type 0) (lands : (j : ℕ) → Landing g.ops j
   move_does m false = refuses 25 refl (λ e. works refl (λ f h. (omega (arith, ltb-false), f.pointed, λ w. search)))
 
   get_does : (m : Mode) (r : Got) → get_of m g.input s.taken ≡ r → Does (plain (get m)) (gotten s r)
-  get_does m Empty e = stopped (other refl)
-  get_does m (Value v p) e =
-      works (length-set s.reg 0 v)
+  get_does m None e = stopped (other refl)
+  get_does m (Some t) e =
+      works (length-set s.reg 0 t.value)
       (λ f h. (omega (arith, rw e at (get_inside m g.input s.taken f.read)), f.pointed, λ w. search (each_part, got)))
     where
-      got : Words g s → Word v
-      got w = got_word g.input s.taken v p (rw e at (get_bounded m g.input s.taken (device_words g.input w.in_input)))
+      got : Words g s → Word t.value
+      got w = got_word g.input s.taken t (rw e at (get_bounded m g.input s.taken (device_words g.input w.in_input)))
 
   peek_does : (vs : List ℕ) → s.channel ≡ vs → Does (plain peek) (peek_at s vs)
   peek_does [] e = stopped (other refl)

@@ -1,6 +1,6 @@
 -- A step, op by op as 01-scope.md has them under 'A step'. The numbers of an op stand in the order in which they are tested, and a refused
 -- step leaves nothing behind: it gives its number, a lane by 02's ask 3, and no state. Assumes nothing.
-use Rattle.std.specs.Prelude.{ℕ, suc, ◌+◌, ◌-◌, ◌*◌, ◌/◌, ◌%◌, ◌^◌, Bool, true, false, cond, ◌&&◌, ◌||◌, List, [], ◌∷◌, ◌++◌, reverse, leb, ltb, eqb, length, take, drop, get_or}
+use Rattle.std.specs.Prelude.{ℕ, suc, ◌+◌, ◌-◌, ◌*◌, ◌/◌, ◌%◌, ◌^◌, Bool, true, false, cond, ◌&&◌, ◌||◌, List, [], ◌∷◌, ◌++◌, reverse, leb, ltb, eqb, length, take, drop, get_or, Some, None, Err}
 use Rattle.std.proofs.Math.Option.{Option, none, some}
 unfoldable pub use Rattle.basics.specs.Pick.{pick}
 use Rattle.lanes.specs.Int.{int_add}
@@ -10,15 +10,12 @@ use Rattle.ops.specs.Syntax.{Op, Control, Plain, needs, is_while}
 use Rattle.ops.specs.Syntax.Control.{function, call, ret, while, if, else, end}
 use Rattle.ops.specs.Syntax.Plain.{comment, store, move, swap, locate, offset, deref, refer, cell, lane, get, put, peek, poke, ffi_call, alloc, free}
 use Rattle.ops.specs.Syntax.Op.{control, set, load, plain}
-use Rattle.testing_device.specs.Device.{get_of, put_of}
+use Rattle.testing_device.specs.Device.{Got, get_of, put_of}
 use Rattle.testing_device.specs.Answers.{got_number, put_number, peeked_number, poked_number}
-use Rattle.testing_device.specs.declared.device.Got.{Got}
-use Rattle.testing_device.specs.declared.device.Got.TheVariants as got
-use Rattle.testing_device.specs.declared.device.Put.TheVariants as put
-use Rattle.testing_device.specs.declared.device.Peeked.TheVariants as peeked
-use Rattle.testing_device.specs.declared.device.Poked.TheVariants as poked
+use Rattle.testing_device.specs.declared.device.PeekError.TheVariants as peek_error
+use Rattle.testing_device.specs.declared.device.PokeError.TheVariants as poke_error
 use Rattle.standard_device.specs.Bindings.{inputs, result_of, called_number}
-use Rattle.standard_device.specs.declared.bindings.Called.TheVariants as ffi
+use Rattle.standard_device.specs.declared.bindings.CallError.TheVariants as call_error
 use Rattle.machine_model.specs.State.{State, Given, rust_table, depth, farthest, longest, first_block, lane0, go_to, with_pointer, with_counted, with_reg, with_tape, with_table, with_calls, with_refs, with_channel, with_taken, with_outs, halt, on, set_lane}
 use Rattle.machine_model.specs.Scan.{op_at, brackets, functions, to_end, to_else, to_open, kth}
 
@@ -150,12 +147,12 @@ grown n = cond (eqb n 0) first_block n
 
 -- what Get gives, or 35
 abbrev pub gotten : State → Got → Outcome
-gotten s got.Empty = refused (got_number got.Empty) 0
-gotten s (got.Value v place) = next (on (with_taken (set_lane s v) place))
+gotten s None = refused (got_number None) 0
+gotten s (Some t) = next (on (with_taken (set_lane s t.value) t.at))
 
 -- outputs, "all or none": 36
 abbrev pub write : Given → State → List ℕ → Outcome
-write g s vs = bar (ltb g.room (length s.outs + length vs)) (put_number put.NoRoom) (next (on (with_outs s (s.outs ++ vs))))
+write g s vs = bar (ltb g.room (length s.outs + length vs)) (put_number None) (next (on (with_outs s (s.outs ++ vs))))
 
 -- the channel's first place once n values are taken
 abbrev pub first_after : State → ℕ → ℕ
@@ -163,7 +160,7 @@ first_after s n = (s.first + n) % depth
 
 -- the channel's oldest value, or 33
 abbrev pub peek_at : State → List ℕ → Outcome
-peek_at s [] = refused (peeked_number peeked.Empty) 0
+peek_at s [] = refused (peeked_number (Err peek_error.Empty)) 0
 peek_at s (v ∷ vs) = next (on (with_channel (set_lane s v) (first_after s 1) vs))
 
 -- ---- the ops that keep the register's length
@@ -197,10 +194,10 @@ act g alloc s =
 act g (get m) s = gotten s (get_of m g.input s.taken)
 act g (put m) s = write g s (put_of m (lane0 s))
 act g peek s = peek_at s s.channel
-act g poke s = bar (leb depth (length s.channel)) (poked_number poked.Full) (next (on (with_channel s s.first (s.channel ++ (lane0 s ∷ [])))))
+act g poke s = bar (leb depth (length s.channel)) (poked_number (Err poke_error.Full)) (next (on (with_channel s s.first (s.channel ++ (lane0 s ∷ [])))))
 -- 02, ask 9: "Each takes its values from the front of the channel and puts its result at the back"; "33 when too few values wait, with none taken"
 act g (ffi_call b) s =
-    bar (ltb (length s.channel) (inputs b)) (called_number ffi.TooFew)
+    bar (ltb (length s.channel) (inputs b)) (called_number (Err call_error.TooFew))
     (next (on (with_channel s (first_after s (inputs b)) (drop (inputs b) s.channel ++ (result_of b s.channel ∷ [])))))
 -- "Where: 21; pointer to lane 0. Lane-only ops: 21"
 act g locate s = next (on (set_lane s s.pointer))

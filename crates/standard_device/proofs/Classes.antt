@@ -18,7 +18,8 @@ use Rattle.lanes.specs.Float.{loaded_of}
 use Rattle.lanes.proofs.Ints.{lt_or_ge}
 use Rattle.lanes.proofs.Floats.{nan_loaded, signed_is}
 use Rattle.standard_device.specs.Root.{infinity, places, steps}
-use Rattle.standard_device.proofs.Laws.{digits_pos, steps_value}
+use Rattle.lanes.proofs.Steps.{digits_some}
+use Rattle.standard_device.proofs.Laws.{steps_value}
 
 pub zeros : (loaded_of 0 ≡ fin false 0 (pos 0)) × (loaded_of (2 ^ 63) ≡ fin true 0 (pos 0))
 unfolding of_bits ieee.of_fields ieee.odd
@@ -31,7 +32,7 @@ infinite = refl
 -- a positive finite float
 pub steps_pos : (a : ℕ) → 0 < a → 0 < steps a
 unfolding steps
-steps_pos a p = mul-pos (digits_pos a p) (pow_pos (places a))
+steps_pos a p = mul-pos (digits_some a p) (pow_pos (places a))
 
 -- a float that is a positive number of steps, with the sign: below zero
 below_zero : (x : Float) (s c : ℕ) → HasValue x false s c → 0 < s → lt (neg x) (fin false 0 (pos 0)) ≡ true

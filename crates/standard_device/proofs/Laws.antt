@@ -5,26 +5,22 @@ use mathlib.Core.Logic.{◌⊎◌, inl, inr, ⊎_elim}
 use Prim.Native.Nat.{ℕ, zero, suc, ◌+◌, ◌-◌, ◌*◌, ◌/◌, ◌%◌, ◌^◌, ◌<◌, ◌≤◌}
 use native.Mathlib.Omega.{arith}
 use native.Mathlib.Nat.{mul-le-mul, mul-le-mul_right, mul-lt-mul_of_pos_right, mul-pos, mul_assoc, le_of_lt, pow-succ'}
-use lib.Dec.{ltb, eqb}
+use lib.Dec.{ltb}
 use lib.Pow.{pow-add, pow_pos, pow_mono}
-use lib.Ieee.{Float, size, binary64, of_bits, of_fields}
-use lib.Ieee.Exact.{HasValue, odd_sign}
+use lib.Ieee.{size}
+use lib.Ieee.Exact.{HasValue}
 use lib.Ieee.Digits.{size-lt, size-le, size_reaches, back}
 use borrow.Author.Tests.{ltb-true, ltb-false, lt-ltb, le-ltb, lt-leb, eq-eqb, ne_eqb}
 use Rattle.lanes.specs.Float.{loaded_of}
 use Rattle.lanes.proofs.Ints.{lt_or_ge}
 use Rattle.lanes.proofs.Values.{pattern_fixed}
+use Rattle.lanes.proofs.Steps.{digits_short, digits_some}
+use Rattle.lanes.proofs.Steps as lanes
 use Rattle.standard_device.specs.Root.{infinity, digits, places, steps, square, twice, Nearest, Root, zero_root, minus_zero_root, infinity_root, no_root, nearest_root, root_rule, root_in, nearer, near_root, positive_root}
 use Rattle.standard_device.specs.Post.{Lifted}
 use Rattle.standard_device.proofs.Whole.{Cut, root_in_cut, sq_lt, sq_back}
 
 -- ---- the floats between two steps of 53 digits
-pub digits_lt : (p : ℕ) → digits p < 2 ^ 53
-digits_lt p = ⊎_elim
-    (λ (l : p < 2 ^ 52). rw (lt-ltb p (2 ^ 52) l) (omega arith))
-    (λ (g : 2 ^ 52 ≤ p). rw (le-ltb p (2 ^ 52) g) (omega arith))
-    (lt_or_ge p (2 ^ 52))
-
 -- n * 2 ^ i, n of at most 53 digits, is no number between q * 2 ^ j and (q + 1) * 2 ^ j
 between : (n i q j : ℕ) → n < 2 ^ 53 → 2 ^ 52 ≤ q → (n * 2 ^ i ≤ q * 2 ^ j) ⊎ (suc q * 2 ^ j ≤ n * 2 ^ i)
 between n i q j h k = ⊎_elim
@@ -40,7 +36,7 @@ between n i q j h k = ⊎_elim
 
 gap : (p q j : ℕ) → 2 ^ 52 ≤ q → (steps p ≤ q * 2 ^ j) ⊎ (suc q * 2 ^ j ≤ steps p)
 unfolding steps
-gap p q j h = between (digits p) (places p) q j (digits_lt p) h
+gap p q j h = between (digits p) (places p) q j (digits_short p) h
 
 -- ---- squares of middles, in steps of u
 lower : (v q u n : ℕ) → v < q * u → q * q ≤ n → (v + q * u) * (v + q * u) < 4 * (n * (u * u))
@@ -117,12 +113,6 @@ module _ (a n q j : ℕ) (c : Cut n q) (x : square a ≡ n * (2 ^ j * 2 ^ j)) (l
       go false e = alone_down (ltb-false _ _ e)
 
 -- ---- the root of a positive finite float
-pub digits_pos : (a : ℕ) → 0 < a → 0 < digits a
-digits_pos a p = ⊎_elim
-    (λ (l : a < 2 ^ 52). rw (lt-ltb a (2 ^ 52) l) p)
-    (λ (g : 2 ^ 52 ≤ a). rw (le-ltb a (2 ^ 52) g) (omega arith))
-    (lt_or_ge a (2 ^ 52))
-
 -- d with zeros at its end to 53 digits
 module _ (d : ℕ) (p : 0 < d) (h : d < 2 ^ 53) where
   some_digits : 0 < size d
@@ -212,13 +202,13 @@ module _ (n : ℕ) (h : n < 4 ^ 53) where
 
 module _ (a : ℕ) (p : 0 < a) (h : a < infinity) where
   pub number_fits : number_of a < 4 ^ 53
-  number_fits = number_high (digits a * 2 ^ zeros_of a) (places_of a % 2) (filled_high (digits a) (digits_pos a p) (digits_lt a)) (omega arith)
+  number_fits = number_high (digits a * 2 ^ zeros_of a) (places_of a % 2) (filled_high (digits a) (digits_some a p) (digits_short a)) (omega arith)
 
   pub alone : Alone a (positive_root a)
   unfolding positive_root near_root square steps
   alone =
-      let z = zeros (digits a) (digits_pos a p) (digits_lt a) in
-      let l = number_low (digits a * 2 ^ zeros_of a) (places_of a % 2) (filled_low (digits a) (digits_pos a p) (digits_lt a)) in
+      let z = zeros (digits a) (digits_some a p) (digits_short a) in
+      let l = number_low (digits a * 2 ^ zeros_of a) (places_of a % 2) (filled_low (digits a) (digits_some a p) (digits_short a)) in
       alone_near a (number_of a) (root_in 53 (number_of a)) (places_of a / 2)
       (root_in_cut 53 (number_of a) number_fits)
       (spread (digits a) (places a) (zeros_of a) (places_of a) (omega arith))
@@ -252,31 +242,10 @@ pub near_bound : (m r : ℕ) → m < 2 ^ 54 → r ≡ near_root (m * 2 ^ 52) →
 near_bound m r h e = subst (λ (x : ℕ). x ≤ 2 ^ 53) (sym e) (near_high (m * 2 ^ 52) (omega arith))
 
 -- ---- the steps of a float are the value that lib.Ieee reads
-fields_value : (x t : ℕ) → x < 2047 → HasValue (of_fields binary64 false x t) false (cond (eqb x 0) t (2 ^ 52 + t) * 2 ^ (x - 1)) (2 ^ 1074)
-unfolding of_fields
-fields_value zero t h = odd_sign 53 false t 0 1074
-fields_value (suc x) t h =
-    let e : suc x - 1 ≡ x = omega arith in
-    rw (ne_eqb (suc x) 2047 (λ (q : suc x ≡ 2047). omega arith), ne_eqb (suc x) 0 (λ (q : suc x ≡ 0). omega arith), e) (odd_sign 53 false (2 ^ 52 + t) x 1074)
-
-fields_steps : (p : ℕ) → cond (eqb (p / 2 ^ 52) 0) (p % 2 ^ 52) (2 ^ 52 + p % 2 ^ 52) * 2 ^ (p / 2 ^ 52 - 1) ≡ steps p
-unfolding steps
-fields_steps p = ⊎_elim
-    (λ (l : p < 2 ^ 52). let e : p % 2 ^ 52 ≡ p = omega arith in rw (eq-eqb (p / 2 ^ 52) 0 (omega arith), lt-ltb p (2 ^ 52) l, e) refl)
-    (λ (g : 2 ^ 52 ≤ p). rw (ne_eqb (p / 2 ^ 52) 0 (λ (q : p / 2 ^ 52 ≡ 0). omega arith), le-ltb p (2 ^ 52) g) refl)
-    (lt_or_ge p (2 ^ 52))
-
-loaded_fields : (p : ℕ) → p < infinity → loaded_of p ≡ of_fields binary64 false (p / 2 ^ 52) (p % 2 ^ 52)
-unfolding of_bits
-loaded_fields p h =
-    let e : p % 2 ^ 63 ≡ p = omega arith in
-    ap (λ (s : Bool). of_fields binary64 s (p % 2 ^ 63 / 2 ^ 52) (p % 2 ^ 52)) (lt-leb (2 ^ 63) p (omega arith))
-    ∙ ap (λ (x : ℕ). of_fields binary64 false (x / 2 ^ 52) (p % 2 ^ 52)) e
-
 pub steps_value : (p : ℕ) → p < infinity → HasValue (loaded_of p) false (steps p) (2 ^ 1074)
 steps_value p h =
-    subst (λ (x : Float). HasValue x false (steps p) (2 ^ 1074)) (sym (loaded_fields p h))
-    (subst (λ (n : ℕ). HasValue (of_fields binary64 false (p / 2 ^ 52) (p % 2 ^ 52)) false n (2 ^ 1074)) (fields_steps p) (fields_value (p / 2 ^ 52) (p % 2 ^ 52) (omega arith)))
+    let e : p % 2 ^ 63 ≡ p = omega arith in
+    rw (lt-leb (2 ^ 63) p (omega arith), e) at (lanes.steps_value p (omega arith))
 
 -- two finite floats of as many steps are one
 pub steps_fixed : (p q : ℕ) → p < infinity → q < infinity → steps p ≡ steps q → p ≡ q

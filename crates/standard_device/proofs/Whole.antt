@@ -10,6 +10,8 @@ use lib.Pow.{pow-add, pow_pos, pow_mono}
 use lib.Ieee.{size}
 use lib.Ieee.Digits.{size-lt, size-le, back}
 use borrow.Author.Tests.{leb-true, leb-false, lt-ltb, le-ltb}
+use Rattle.std.specs.Int.Count.{count_leading_zeros}
+use Rattle.std.proofs.lemmas.Nat.{leading_top}
 use Rattle.lanes.proofs.Ints.{lt_or_ge}
 use Rattle.standard_device.specs.Root.{root_in, nearer, near_root}
 use Rattle.standard_device.specs.Post.{Turned, Lifted}
@@ -88,11 +90,11 @@ finished m q rest w i v h =
     let k : m * 4 ^ 53 ≡ (q * q + rest) * 2 ^ 54 + w = subst (λ (x : ℕ). m * 4 ^ x ≡ (q * q + rest) * 2 ^ 54 + w) e v.whole in
     omega (arith, v.unread, k)
 
--- ---- the loop for the digits
-pub few : (d z : ℕ) → 0 < d → d * 2 ^ z < 2 ^ 53 → z < 53
+-- ---- zeros behind the digits
+few : (d z : ℕ) → 0 < d → d * 2 ^ z < 2 ^ 53 → z < 53
 few d z p h = ⊎_elim (λ l. l) (λ (g : 53 ≤ z). absurd (omega (arith, pow_mono g, mul-le-mul_right (2 ^ z) p))) (lt_or_ge z 53)
 
-pub lifted : (d m z : ℕ) → 0 < d → m ≡ d * 2 ^ z → 2 ^ 52 ≤ m → m < 2 ^ 53 → Lifted d m z
+lifted : (d m z : ℕ) → 0 < d → m ≡ d * 2 ^ z → 2 ^ 52 ≤ m → m < 2 ^ 53 → Lifted d m z
 lifted d m z p e l h =
     let f : z < 53 = few d z p (omega arith) in
     let a : 2 ^ (53 - z) * 2 ^ z ≡ 2 ^ 53 = sym (pow-add 2 (53 - z) z) ∙ ap (λ (x : ℕ). 2 ^ x) (back 53 z (omega arith)) in
@@ -110,3 +112,27 @@ lifted d m z p e l h =
           (λ (g : 53 - z ≤ size d). omega arith)
           (lt_or_ge (size d) (53 - z));
     }
+
+-- as many of them as stand before 53 digits of 64
+module _ (d : ℕ) (p : 0 < d) (h : d < 2 ^ 53) where
+  top : (j : ℕ) × (count_leading_zeros 64 d + suc j ≡ 64) × (2 ^ j ≤ d) × (d < 2 ^ suc j)
+  top = leading_top 64 d p (omega arith)
+
+  place : top.0 < 53
+  place = ⊎_elim (λ l. l) (λ (g : 53 ≤ top.0). absurd (omega (arith, pow_mono g, top.2))) (lt_or_ge top.0 53)
+
+  pub zeros_before : 11 ≤ count_leading_zeros 64 d
+  zeros_before = omega (arith, top.1, place)
+
+  pub lifted_by : {z : ℕ} → z ≡ count_leading_zeros 64 d - 11 → Lifted d (d * 2 ^ (count_leading_zeros 64 d - 11) % 2 ^ 64) z
+  lifted_by {z} e =
+      let k = 52 - top.0 in
+      let q : count_leading_zeros 64 d - 11 ≡ k = omega (arith, top.1, place) in
+      let r : top.0 + k ≡ 52 = omega (arith, place) in
+      let r' : suc top.0 + k ≡ 53 = omega arith in
+      let a : 2 ^ top.0 * 2 ^ k ≡ 2 ^ 52 = sym (pow-add 2 top.0 k) ∙ ap (λ (x : ℕ). 2 ^ x) r in
+      let b : 2 ^ suc top.0 * 2 ^ k ≡ 2 ^ 53 = sym (pow-add 2 (suc top.0) k) ∙ ap (λ (x : ℕ). 2 ^ x) r' in
+      let l : 2 ^ 52 ≤ d * 2 ^ k = omega (arith, a, mul-le-mul_right (2 ^ k) top.2) in
+      let u : d * 2 ^ k < 2 ^ 53 = omega (arith, b, mul-le-mul_right (2 ^ k) top.3, pow_pos k) in
+      let m : d * 2 ^ k % 2 ^ 64 ≡ d * 2 ^ k = omega (arith, u) in
+      rw (q, e ∙ q, m) (lifted d (d * 2 ^ k) k p refl l u)

@@ -8,12 +8,18 @@ use crate::root::square_root;
 use lanes::lane::{CellOp, cell_rule};
 use ops::op::Binding;
 use testing_device::channel::is_ring;
-use testing_device::device::Poked;
+use testing_device::device::Peeked;
 
-// What FFI Call gives: the ring's first place and count after it. NotARing is the public form of 37.
+// What FFI Call gives: the ring's first place and count after it.
 #[derive(Clone, Copy)]
-pub enum Called {
-    Sent(usize, usize),
+pub struct Sent {
+    pub first: usize,
+    pub waiting: usize,
+}
+
+// Why it calls nothing. NotARing is the public form of 37.
+#[derive(Clone, Copy, PartialEq, Eq)]
+pub enum CallError {
     TooFew,
     NotARing,
 }
@@ -38,23 +44,31 @@ fn result_of(binding: Binding, channel: &[u64], first: usize, waiting: usize) ->
     match binding {
         Binding::SquareRoot => square_root(a),
         Binding::Add => {
-            let second = (first + 1) % Poked::CHANNEL;
+            let second = (first + 1) % Peeked::CHANNEL;
             cell_rule(CellOp::FloatAdd, a, channel[second])
         }
     }
 }
 
-pub fn ffi_call(binding: Binding, channel: &mut [u64], first: usize, waiting: usize) -> Called
+pub fn ffi_call(
+    binding: Binding,
+    channel: &mut [u64],
+    first: usize,
+    waiting: usize,
+) -> Result<Sent, CallError>
     ensures { call_left result channel.new ≡ call_in binding channel.old first waiting }
 {
     if !is_ring(channel, first, waiting) {
-        return Called::NotARing;
+        return Err(CallError::NotARing);
     }
     let n = inputs_of(binding);
     if waiting < n {
-        return Called::TooFew;
+        return Err(CallError::TooFew);
     }
-    let back = (first + waiting) % Poked::CHANNEL;
+    let back = (first + waiting) % Peeked::CHANNEL;
     channel[back] = result_of(binding, channel, first, waiting);
-    Called::Sent((first + n) % Poked::CHANNEL, waiting - n + 1)
+    Ok(Sent {
+        first: (first + n) % Peeked::CHANNEL,
+        waiting: waiting - n + 1,
+    })
 }

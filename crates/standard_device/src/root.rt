@@ -1,15 +1,16 @@
 // The square root of a lane as a float of 64 bits, by its pattern: the nearest float. Whole numbers alone: the digits of the root come one by one.
 ghost use Rattle.std.specs.Prelude.{◌≡◌, ◌+◌, ◌*◌, ◌^◌, ◌<◌, ◌≤◌};
-ghost use Rattle.standard_device.specs.Root.{digits, places, near_root, positive_root, root_rule};
+ghost use Rattle.standard_device.specs.Root.{near_root, positive_root, root_rule};
 ghost use Rattle.standard_device.specs.Post.{Turned, Lifted};
 
-const HALF: u64 = 0x8000_0000_0000_0000;
-
-const LOW: u64 = 0x10_0000_0000_0000;
+use lanes::float::NAN;
+use lanes::int::HALF;
+use lanes::remainder::{LOW, digits_of, places_of};
 
 const INFINITY: u64 = 0x7FF0_0000_0000_0000;
 
-const NAN: u64 = 0x7FF8_0000_0000_0000;
+// The zeros before 53 digits in 64 places.
+const ROOM: u32 = 11;
 
 // A root cut to a whole number, and what its square leaves.
 #[derive(Clone, Copy)]
@@ -54,13 +55,11 @@ fn near_root(m: u64) -> u64
     let mut q: u64 = 0;
     let mut rest: u64 = 0;
     let mut w = m;
-    let mut i: u64 = 0;
-    while i < 53 {
+    for _ in 0..53u64 {
         let s = turn(q, rest, w / LOW);
         q = s.q;
         rest = s.rest;
         w = w % LOW * 4;
-        i += 1;
     }
     if q < rest {
         return q + 1;
@@ -74,33 +73,11 @@ fn raised(d: u64) -> Long
     requires d_bound { d < 2 ^ 53 }
     ensures { Lifted d result.m result.times }
 {
-    let mut m = d;
-    let mut times: u64 = 0;
-    while m < LOW {
-        m = m * 2;
-        times += 1;
+    let times = d.leading_zeros() - ROOM;
+    Long {
+        m: d << times,
+        times: u64::from(times),
     }
-    Long { m: m, times: times }
-}
-
-// The digits of a positive finite float.
-fn digits_of(p: u64) -> u64
-    ensures { result ≡ digits p }
-{
-    if p < LOW {
-        return p;
-    }
-    LOW + p % LOW
-}
-
-// The places that they stand above the least float.
-fn places_of(p: u64) -> u64
-    ensures { result ≡ places p }
-{
-    if p < LOW {
-        return 0;
-    }
-    p / LOW - 1
 }
 
 // Of a positive finite float: the digits' root, in the place that is half of theirs.
@@ -115,6 +92,7 @@ fn positive_root(a: u64) -> u64
 }
 
 // Either zero and infinity give themselves, and what is negative or a NaN the one NaN.
+#[tactic(auto, unfolding(crate::specs::Root::root_rule))]
 pub fn square_root(a: u64) -> u64
     ensures { result ≡ root_rule a }
 {

@@ -9,7 +9,7 @@ use kind_table::row;
 use machine_numbers::numbers::{BY_MARK, Numbers};
 use ops::records::Record;
 use patch_reader::reader::Read;
-use testing_device::device::Poked;
+use testing_device::device::Peeked;
 
 fn has_room(register: &[u64], table: &[u16], channel: &[u64]) -> bool
     ensures { result ≡ has_room register.now table.now channel.now }
@@ -20,7 +20,7 @@ fn has_room(register: &[u64], table: &[u16], channel: &[u64]) -> bool
     if table.len() < Read::MARKS {
         return false;
     }
-    Poked::CHANNEL <= channel.len()
+    Peeked::CHANNEL <= channel.len()
 }
 
 // What a fresh run asks: a known call mode, and room.
@@ -64,10 +64,10 @@ fn in_limits(h: Numbers) -> bool
     if Numbers::REFS < h.saved {
         return false;
     }
-    if Poked::CHANNEL < h.waiting {
+    if Peeked::CHANNEL < h.waiting {
         return false;
     }
-    if Poked::CHANNEL <= h.first {
+    if Peeked::CHANNEL <= h.first {
         return false;
     }
     if BY_MARK < h.mode {

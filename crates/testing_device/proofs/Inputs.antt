@@ -1,35 +1,19 @@
 -- What Get reads: spaces passed, digits taken, and bounds of the value and the place. Assumes nothing.
-use Rattle.std.proofs.Common.{◌≡◌, ℕ, suc, ◌+◌, ◌-◌, ◌*◌, ◌%◌, ◌^◌, ◌<◌, ◌≤◌, Bool, true, false, leb, List, [], ◌∷◌, length, get_or, take, drop, refl, ap, ◌∙◌, subst, add-zero, add-one, arith, length-drop, drop_of_length-le, drop-cons, drop-drop, leb-true}
-use Rattle.basics.proofs.Tests.{by_case, and_left}
+use Rattle.std.proofs.Common.{◌≡◌, ℕ, suc, ◌+◌, ◌-◌, ◌*◌, ◌%◌, ◌^◌, ◌<◌, ◌≤◌, Option, Some, None, true, leb, List, [], ◌∷◌, length, get_or, take, drop, refl, ap, ◌∙◌, subst, add-zero, add-one, arith, length-drop, drop-cons, drop-drop, leb-true, leb-false, max, sym}
+use Rattle.basics.proofs.Tests.{by_case}
 use Rattle.ops.specs.declared.op.Mode.{Mode}
 use Rattle.ops.specs.declared.op.Mode.TheVariants.{Char, Int, Other}
-use Rattle.testing_device.specs.declared.device.Got.{Got}
-use Rattle.testing_device.specs.declared.device.Got.TheVariants.{Value, Empty}
+use Rattle.decimals.proofs.Ends.{leading_end}
+pub use Rattle.decimals.proofs.Ends.{leading_length}
+use Rattle.testing_device.specs.declared.device.Taken.{Taken}
 use Rattle.testing_device.specs.Device.{is_space, is_digit, leading, decimal_from, int_from, char_from, get_of}
 use Rattle.testing_device.proofs.Words.{Words, words_drop}
 
-module _ (p : ℕ → Bool) (l : List ℕ) (i : ℕ) where
-  -- none beyond the end, none where the value there has not the property, one more where it has
-  pub leading_end : length l ≤ i → leading p (drop i l) ≡ 0
-  unfolding leading
-  leading_end h = rw (drop_of_length-le l h) refl
-
-  pub leading_stop : i < length l → p (get_or l i 0) ≡ false → leading p (drop i l) ≡ 0
-  unfolding leading
-  leading_stop h e = rw (drop-cons l i 0 h, e) refl
-
-  pub leading_more : i < length l → p (get_or l i 0) ≡ true → leading p (drop i l) ≡ suc (leading p (drop (i + 1) l))
-  unfolding leading
-  leading_more h e = rw (drop-cons l i 0 h, e, add-one i) refl
-
-  pub leading_on : i < length l → p (get_or l i 0) ≡ true → i + leading p (drop i l) ≡ i + 1 + leading p (drop (i + 1) l)
-  leading_on h e = rw (leading_more h e) (omega arith)
-
 -- the number a with the digits from place i on, and the place after them
-unfoldable pub digits_from : List ℕ → ℕ → ℕ → Got
-digits_from l i a = Value (decimal_from a (take (leading is_digit (drop i l)) (drop i l))) (i + leading is_digit (drop i l))
+unfoldable pub digits_from : List ℕ → ℕ → ℕ → Taken
+digits_from l i a = record { value = decimal_from a (take (leading is_digit (drop i l)) (drop i l)); at = i + leading is_digit (drop i l) }
 
-pub digits_none : (l : List ℕ) (i a : ℕ) → leading is_digit (drop i l) ≡ 0 → digits_from l i a ≡ Value a i
+pub digits_none : (l : List ℕ) (i a : ℕ) → leading is_digit (drop i l) ≡ 0 → digits_from l i a ≡ record { value = a; at = i }
 unfolding digits_from decimal_from
 digits_none l i a e = rw (e, add-zero i) refl
 
@@ -40,40 +24,19 @@ digits_more l i a h e =
     let q : i + suc (leading is_digit (drop (suc i) l)) ≡ suc i + leading is_digit (drop (suc i) l) = omega arith in
     rw (drop-cons l i 0 h, e, q, add-one i) refl
 
+-- the digits go on to the end of the input, or begin beyond it
+pub digits_last : (l : List ℕ) (start i a : ℕ) (x : Taken) → digits_from l i a ≡ x → length l ≤ i → (start ≤ length l → i ≤ length l) → (length l ≤ start → i ≡ start)
+    → record { value = a; at = max start (length l) } ≡ x
+digits_last l start i a x e h b o =
+    let m : max start (length l) ≡ i = by_case (leb start (length l)) (λ t. let k = leb-true start (length l) t in omega (arith, b k)) (λ t. let k = leb-false start (length l) t in let k2 : length l ≤ start = omega arith in omega (arith, o k2)) in
+    rw m (sym (digits_none l i a (leading_end is_digit l i h)) ∙ e)
+
 -- an integer: spaces, then digits
 pub int_is : (l : List ℕ) (at : ℕ) → digits_from l (at + leading is_space (drop at l)) 0 ≡ int_from (drop at l) at
 unfolding digits_from int_from
 int_is l at = rw (drop-drop (leading is_space (drop at l)) at l) refl
 
-pub digit_least : (v : ℕ) → is_digit v ≡ true → 48 ≤ v % 256
-digit_least v e = leb-true 48 (v % 256) (and_left (leb 48 (v % 256)) (leb (v % 256) 57) e)
-
--- a sum modulo 2 ^ 64 of sums modulo 2 ^ 64
-wrapped : (a b : ℕ) → (a % 2 ^ 64 + b % 2 ^ 64) % 2 ^ 64 ≡ (a + b) % 2 ^ 64
-wrapped a b = omega arith
-
-wrapped_left : (a b : ℕ) → (a % 2 ^ 64 + b) % 2 ^ 64 ≡ (a + b) % 2 ^ 64
-wrapped_left a b = omega arith
-
--- ten times a is eight times and twice a
-pub tenfold : (a d : ℕ) {t f e n : ℕ} → t ≡ (a + a) % 2 ^ 64 → f ≡ (t + t) % 2 ^ 64 → e ≡ (f + f) % 2 ^ 64 → n ≡ (e + t) % 2 ^ 64
-    → (n + d) % 2 ^ 64 ≡ (a * 10 + d) % 2 ^ 64
-tenfold a d {t} {f} {e} {n} et ef ee en =
-    let two = a + a in let four = two + two in
-    let qf : f ≡ four % 2 ^ 64 = ef ∙ rw et (wrapped two two) in
-    let qe : e ≡ (four + four) % 2 ^ 64 = ee ∙ rw qf (wrapped four four) in
-    let qn : n ≡ (four + four + two) % 2 ^ 64 = en ∙ rw (qe, et) (wrapped (four + four) two) in
-    rw qn (wrapped_left (four + four + two) d ∙ ap (λ (k : ℕ). (k + d) % 2 ^ 64) (ten a))
-  where
-    ten : (a : ℕ) → a + a + (a + a) + (a + a + (a + a)) + (a + a) ≡ a * 10
-    ten a = omega arith
-
 -- ---- bounds
-
-pub leading_length : (p : ℕ → Bool) (l : List ℕ) → leading p l ≤ length l
-unfolding leading
-leading_length p [] = omega arith
-leading_length p (v ∷ vs) = by_case (p v) (λ e. let h = leading_length p vs in rw e (omega arith)) (λ e. rw e (omega arith))
 
 decimal_word : (a : ℕ) (vs : List ℕ) → a < 2 ^ 64 → decimal_from a vs < 2 ^ 64
 unfolding decimal_from
@@ -81,15 +44,15 @@ decimal_word a [] h = h
 decimal_word a (v ∷ vs) h = decimal_word ((a * 10 + (v % 256 - 48)) % 2 ^ 64) vs (omega arith)
 
 -- what is got is a value below 2 ^ 64, at a place from `at` on and, if `at` is in the input, in the input
-pub data Bounded (l : List ℕ) (at : ℕ) : Got → Type 0 where
-  empty : Bounded l at Empty
-  value : (v n : ℕ) → v < 2 ^ 64 → at ≤ n → (at ≤ length l → n ≤ length l) → Bounded l at (Value v n)
+pub data Bounded (l : List ℕ) (at : ℕ) : Option Taken → Type 0 where
+  empty : Bounded l at None
+  value : (v n : ℕ) → v < 2 ^ 64 → at ≤ n → (at ≤ length l → n ≤ length l) → Bounded l at (Some (record { value = v; at = n }))
 
 char_bounded : (l : List ℕ) (at : ℕ) (vs : List ℕ) → Words vs → length vs ≡ length l - at → Bounded l at (char_from vs at)
 char_bounded l at [] w e = empty
 char_bounded l at (v ∷ vs) w e = value v (at + 1) (w.at 0) (omega arith) (λ h. omega arith)
 
-int_bounded : (l : List ℕ) (at : ℕ) (vs : List ℕ) → length vs ≡ length l - at → Bounded l at (int_from vs at)
+int_bounded : (l : List ℕ) (at : ℕ) (vs : List ℕ) → length vs ≡ length l - at → Bounded l at (Some (int_from vs at))
 unfolding int_from
 int_bounded l at vs e =
     let a = leading is_space vs in let n = leading is_digit (drop a vs) in

@@ -1,11 +1,12 @@
 -- What Put writes: decimal characters digit by digit, and where they stand. Assumes nothing.
-use Rattle.std.proofs.Common.{◌≡◌, ℕ, zero, suc, ◌+◌, ◌-◌, ◌/◌, ◌%◌, ◌^◌, ◌<◌, ◌≤◌, ltb, List, [], ◌∷◌, ◌++◌, length, drop, set, sym, refl, ◌∙◌, subst, arith, length-set, drop-cons, get_or-set_same, drop-set-lt, ltb-true, le-ltb, lt-ltb}
+use Rattle.std.proofs.Common.{◌≡◌, ℕ, zero, suc, ◌+◌, ◌-◌, ◌/◌, ◌%◌, ◌^◌, ◌<◌, ◌≤◌, ltb, List, [], ◌∷◌, ◌++◌, length, drop, set, sym, refl, ◌∙◌, subst, arith, length-set, drop-cons, get_or-set_same, drop-set-lt, ltb-true, le-ltb, lt-ltb, le-leb, eqb, false, Some, None}
+use borrow.Author.Tests.{lt-leb}
 use lib.Seq.{append_snoc, paste, take-length}
 use Rattle.basics.proofs.Tests.{by_case}
 use Rattle.ops.specs.declared.op.Mode.{Mode}
 use Rattle.ops.specs.declared.op.Mode.TheVariants.{Char, Int, Other}
 use Rattle.testing_device.specs.Device.{decimal, written, put_of}
-use Rattle.testing_device.specs.Room.{placed}
+use Rattle.testing_device.specs.Room.{left, placed, put_in}
 use Rattle.testing_device.proofs.Words.{Words, no_words, words_cons, words_append}
 
 -- ---- digits
@@ -79,3 +80,13 @@ put_words Other v h = no_words
 pub placed_all : (vs output : List ℕ) (count n : ℕ) → n ≡ length vs → paste output count vs n ≡ placed vs output count
 unfolding placed
 placed_all vs output count n e = rw (e, take-length vs) refl
+
+-- no room for all of some values, or room for them
+module _ (vs out : List ℕ) (n : ℕ) (some : eqb (length vs) 0 ≡ false) where
+  pub no_room : length out < n + length vs → put_in vs out n ≡ left None out
+  unfolding put_in
+  no_room h = rw (some, lt-leb _ _ h) refl
+
+  pub all_room : n + length vs ≤ length out → {out' : List ℕ} → out' ≡ placed vs out n → put_in vs out n ≡ left (Some (n + length vs)) out'
+  unfolding put_in
+  all_room h e = rw (some, le-leb _ _ h, e) refl

@@ -1,10 +1,10 @@
 -- The ring of 256 places: what is read of it, and what a value sent to it or taken from it leaves. Assumes nothing.
-use Rattle.std.proofs.Common.{◌≡◌, ℕ, zero, suc, ◌+◌, ◌-◌, ◌%◌, ◌<◌, ◌≤◌, true, ◌&&◌, ltb, leb, List, [], ◌∷◌, ◌++◌, length, get_or, drop, set, sym, refl, ap, ◌∙◌, ap₂, add-zero, add-one, arith, length-append, length-set, get_or-set_other, get_or-set_same, ltb-true, leb-true}
+use Rattle.std.proofs.Common.{◌≡◌, ℕ, zero, suc, ◌+◌, ◌-◌, ◌%◌, ◌<◌, ◌≤◌, true, ◌&&◌, ltb, leb, List, [], ◌∷◌, ◌++◌, length, get_or, drop, set, sym, refl, ap, ◌∙◌, ap₂, add-zero, add-one, arith, length-append, length-set, get_or-set_other, get_or-set_same, ltb-true, leb-true, Ok, Err}
 use lib.Seq.{set-get_or}
 use Rattle.basics.proofs.Tests.{and_left, and_right}
 use Rattle.testing_device.specs.Device.{ring, fill_ring}
 use Rattle.testing_device.specs.Channel.{is_ring, peek_of}
-use Rattle.testing_device.specs.declared.device.Peeked.TheVariants.{Value, Empty}
+use Rattle.testing_device.specs.declared.device.PeekError.TheVariants.{Empty}
 
 pub length_ring : (l : List ℕ) (f n : ℕ) → length (ring l f n) ≡ n
 unfolding ring
@@ -115,11 +115,11 @@ ringed l f n e =
     }
 
 -- Peek of a ring: nothing waits, or the value at its first place
-pub peek_none : (l : List ℕ) (f n : ℕ) → is_ring l f n ≡ true → n ≡ 0 → peek_of l f n ≡ Empty
+pub peek_none : (l : List ℕ) (f n : ℕ) → is_ring l f n ≡ true → n ≡ 0 → peek_of l f n ≡ Err Empty
 unfolding peek_of ring
 peek_none l f n r e = rw (r, e) refl
 
-pub peek_some : (l : List ℕ) (f n : ℕ) → is_ring l f n ≡ true → 0 < n → peek_of l f n ≡ Value (get_or l f 0) ((f + 1) % 256) (n - 1)
+pub peek_some : (l : List ℕ) (f n : ℕ) → is_ring l f n ≡ true → 0 < n → peek_of l f n ≡ Ok (record { value = get_or l f 0; first = (f + 1) % 256; waiting = n - 1 })
 unfolding peek_of
 peek_some l f zero r h = absurd (omega arith)
 peek_some l f (suc n) r h =

@@ -1,25 +1,18 @@
 -- What the device takes and gives: what Get reads of the input, what Put writes, and the channel's ring. Assumes nothing.
-use Rattle.std.specs.Prelude.{ℕ, zero, suc, ◌+◌, ◌-◌, ◌*◌, ◌/◌, ◌%◌, ◌^◌, Bool, cond, ◌&&◌, ◌||◌, List, [], ◌∷◌, ◌++◌, take, drop, ◌==◌, nat_le, nat_lt, slice_index}
+use Rattle.std.specs.Prelude.{ℕ, zero, suc, ◌+◌, ◌-◌, ◌*◌, ◌/◌, ◌%◌, ◌^◌, cond, List, [], ◌∷◌, ◌++◌, take, drop, nat_lt, slice_index, Option, Some, None}
 use lib.ListN
 use Rattle.basics.specs.Limits.{depth}
+pub use Rattle.decimals.specs.Chars.{is_space, is_digit}
+unfoldable pub use Rattle.decimals.specs.Chars.{leading}
 use Rattle.ops.specs.declared.op.Mode.{Mode}
 use Rattle.ops.specs.declared.op.Mode.TheVariants.{Char, Int, Other}
-use Rattle.testing_device.specs.declared.device.Got.{Got}
-use Rattle.testing_device.specs.declared.device.Got.TheVariants.{Value, Empty}
+use Rattle.testing_device.specs.declared.device.Taken.{Taken}
 
 -- ---- Get
 
--- "Int input skips space, tab, LF, FF, CR, takes values modulo 256"
-abbrev pub is_space : ℕ → Bool
-is_space v = v % 256 == 32 || v % 256 == 9 || v % 256 == 10 || v % 256 == 12 || v % 256 == 13
-
-abbrev pub is_digit : ℕ → Bool
-is_digit v = nat_le 48 (v % 256) && nat_le (v % 256) 57
-
--- how many values that have the property stand at the start
-unfoldable pub leading : (ℕ → Bool) → List ℕ → ℕ
-leading p [] = 0
-leading p (v ∷ vs) = let r = leading p vs in cond (p v) (suc r) 0
+-- what it gives: a value and the place after it, or none
+abbrev pub Got : Type 0
+Got = Option Taken
 
 -- "wraps": the number that decimal digits write after the number a, modulo 2 ^ 64
 unfoldable pub decimal_from : ℕ → List ℕ → ℕ
@@ -27,24 +20,24 @@ decimal_from a [] = a
 decimal_from a (v ∷ vs) = decimal_from ((a * 10 + (v % 256 - 48)) % 2 ^ 64) vs
 
 -- an integer of the values from the place `at` on: spaces are passed, then digits are taken; "no digit gives 0"
-unfoldable pub int_from : List ℕ → ℕ → Got
+unfoldable pub int_from : List ℕ → ℕ → Taken
 unfolding leading decimal_from
 int_from vs at =
     let a = leading is_space vs in
     let n = leading is_digit (drop a vs) in
-    Value (decimal_from 0 (take n (drop a vs))) (at + a + n)
+    record { value = decimal_from 0 (take n (drop a vs)); at = at + a + n }
 
 -- a char is the next value whole; none left is 35
 abbrev pub char_from : List ℕ → ℕ → Got
-char_from [] at = Empty
-char_from (v ∷ vs) at = Value v (at + 1)
+char_from [] at = None
+char_from (v ∷ vs) at = Some (record { value = v; at = at + 1 })
 
 -- what Get takes of the input from the place `at` on; "Mode 3 gets 0"
 unfoldable pub get_of : Mode → List ℕ → ℕ → Got
 unfolding int_from
 get_of Char input at = char_from (drop at input) at
-get_of Int input at = int_from (drop at input) at
-get_of Other input at = Value 0 at
+get_of Int input at = Some (int_from (drop at input) at)
+get_of Other input at = Some (record { value = 0; at = at })
 
 -- ---- Put
 

@@ -1,14 +1,12 @@
 -- Put in the output: where its values stand, and when there is no room for them. Assumes nothing.
-use Rattle.std.specs.Prelude.{ℕ, ◌+◌, cond, List, ◌++◌, length, take, drop, ◌==◌, nat_le}
-use Rattle.testing_device.specs.declared.device.Put.{Put}
-use Rattle.testing_device.specs.declared.device.Put.TheVariants.{Written, NoRoom}
+use Rattle.std.specs.Prelude.{ℕ, ◌+◌, cond, List, ◌++◌, length, take, drop, ◌==◌, nat_le, Option, Some, None}
 
 -- what Put leaves: its answer, and the output
 pub record Left : Type 0 where
-  pub answer : Put
+  pub answer : Option ℕ
   pub output : List ℕ
 
-abbrev pub left : Put → List ℕ → Left
+abbrev pub left : Option ℕ → List ℕ → Left
 left a output = record { answer = a; output = output }
 
 -- the values stand from the place `count` on; "Lent entries outside the counts keep their values"
@@ -19,5 +17,5 @@ placed values output count = take count output ++ values ++ drop (count + length
 unfoldable pub put_in : List ℕ → List ℕ → ℕ → Left
 unfolding placed
 put_in values output count =
-    cond (length values == 0) (left (Written count) output)
-    (cond (nat_le (count + length values) (length output)) (left (Written (count + length values)) (placed values output count)) (left NoRoom output))
+    cond (length values == 0) (left (Some count) output)
+    (cond (nat_le (count + length values) (length output)) (left (Some (count + length values)) (placed values output count)) (left None output))

@@ -2,43 +2,45 @@
 ghost use Rattle.std.specs.Prelude.{◌≡◌};
 ghost use Rattle.testing_device.specs.Channel.{is_ring, poke_left, peek_of, poke_in};
 
-use crate::device::{Peeked, Poked};
+use crate::device::{PeekError, Peeked, PokeError};
 
 pub fn is_ring(channel: &[u64], first: usize, waiting: usize) -> bool
     ensures { result ≡ is_ring channel.now first waiting }
 {
-    if channel.len() < Poked::CHANNEL {
-        return false;
-    }
-    if Poked::CHANNEL <= first {
-        return false;
-    }
-    waiting <= Poked::CHANNEL
+    Peeked::CHANNEL <= channel.len() && first < Peeked::CHANNEL && waiting <= Peeked::CHANNEL
 }
 
-pub fn peek(channel: &[u64], first: usize, waiting: usize) -> Peeked
+pub fn peek(channel: &[u64], first: usize, waiting: usize) -> Result<Peeked, PeekError>
     ensures { result ≡ peek_of channel.now first waiting }
 {
     if !is_ring(channel, first, waiting) {
-        return Peeked::NotARing;
+        return Err(PeekError::NotARing);
     }
     if waiting == 0 {
-        return Peeked::Empty;
+        return Err(PeekError::Empty);
     }
-    let next = (first + 1) % Poked::CHANNEL;
-    Peeked::Value(channel[first], next, waiting - 1)
+    Ok(Peeked {
+        value: channel[first],
+        first: (first + 1) % Peeked::CHANNEL,
+        waiting: waiting - 1,
+    })
 }
 
-pub fn poke(value: u64, channel: &mut [u64], first: usize, waiting: usize) -> Poked
+// The ring's count after the value.
+pub fn poke(
+    value: u64,
+    channel: &mut [u64],
+    first: usize,
+    waiting: usize,
+) -> Result<usize, PokeError>
     ensures { poke_left result channel.new ≡ poke_in value channel.old first waiting }
 {
     if !is_ring(channel, first, waiting) {
-        return Poked::NotARing;
+        return Err(PokeError::NotARing);
     }
-    if Poked::CHANNEL <= waiting {
-        return Poked::Full;
+    if Peeked::CHANNEL <= waiting {
+        return Err(PokeError::Full);
     }
-    let at = (first + waiting) % Poked::CHANNEL;
-    channel[at] = value;
-    Poked::Sent(waiting + 1)
+    channel[(first + waiting) % Peeked::CHANNEL] = value;
+    Ok(waiting + 1)
 }

@@ -1,34 +1,35 @@
-// What Get gives: the value, and the input place after what it took.
+// What the device answers: a value taken or given, or why there is none.
+
+// What Get takes: the value, and the input place after what it took.
 #[derive(Clone, Copy)]
-pub enum Got {
-    Value(u64, usize),
-    Empty,
+pub struct Taken {
+    pub value: u64,
+    pub at: usize,
 }
 
-// What Put gives: the output count after what it wrote.
+// What Peek takes: the value, and the ring's first place and count after it.
 #[derive(Clone, Copy)]
-pub enum Put {
-    Written(usize),
-    NoRoom,
+pub struct Peeked {
+    pub value: u64,
+    pub first: usize,
+    pub waiting: usize,
 }
 
-// What Peek gives: the value, and the ring's first place and count after it. NotARing is the public form of 37.
-#[derive(Clone, Copy)]
-pub enum Peeked {
-    Value(u64, usize, usize),
+impl Peeked {
+    // The values that may wait in the channel, the last count accepted: it is a ring of so many places.
+    pub const CHANNEL: usize = 256;
+}
+
+// Why Peek takes nothing. NotARing is the public form of 37.
+#[derive(Clone, Copy, PartialEq, Eq)]
+pub enum PeekError {
     Empty,
     NotARing,
 }
 
-// What Poke gives: the ring's count after the value.
-#[derive(Clone, Copy)]
-pub enum Poked {
-    Sent(usize),
+// Why Poke sends nothing.
+#[derive(Clone, Copy, PartialEq, Eq)]
+pub enum PokeError {
     Full,
     NotARing,
-}
-
-// The values that may wait in the channel, the last count accepted: it is a ring of so many places.
-impl Poked {
-    pub const CHANNEL: usize = 256;
 }

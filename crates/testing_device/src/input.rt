@@ -1,38 +1,10 @@
 // Get: the next value of the input, or the integer that its next values write.
 ghost use Rattle.std.specs.Prelude.{◌≡◌, ◌+◌, ◌-◌, ◌*◌, ◌%◌, ◌^◌, ◌≤◌, drop};
-ghost use Rattle.testing_device.specs.Device.{is_space, is_digit, leading, char_from, int_from, get_of};
+ghost use Rattle.testing_device.specs.Device.{char_from, int_from, get_of};
 
-use crate::device::Got;
+use crate::device::Taken;
+use decimals::chars::{is_digit, past_spaces};
 use ops::op::Mode;
-
-fn is_space(v: u64) -> bool
-    ensures { result ≡ is_space v }
-{
-    let b = v % 256;
-    if b == 32 {
-        return true;
-    }
-    if b == 9 {
-        return true;
-    }
-    if b == 10 {
-        return true;
-    }
-    if b == 12 {
-        return true;
-    }
-    b == 13
-}
-
-fn is_digit(v: u64) -> bool
-    ensures { result ≡ is_digit v }
-{
-    let d = v % 256;
-    if 48 <= d {
-        return d <= 57;
-    }
-    false
-}
 
 // The number a with one digit more. Ten times a is eight times and twice a.
 fn with_digit(a: u64, v: u64) -> u64
@@ -46,51 +18,39 @@ fn with_digit(a: u64, v: u64) -> u64
     std::num::wrapping_add_u64(tenfold, v % 256 - 48)
 }
 
-// The place of the first value from `at` on that is no space.
-fn past_spaces(input: &[u64], at: usize) -> usize
-    ensures { result ≡ at + leading is_space (drop at input.now) }
-{
-    let mut i = at;
-    while i < input.len() {
-        if !is_space(input[i]) {
-            return i;
-        }
-        i += 1;
-    }
-    i
-}
-
-fn get_int(input: &[u64], at: usize) -> Got
+// An integer: spaces are passed, then digits are taken; without a digit it is 0.
+fn get_int(input: &[u64], at: usize) -> Taken
     ensures { result ≡ int_from (drop at input.now) at }
 {
-    let mut i = past_spaces(input, at);
-    let mut a: u64 = 0;
-    while i < input.len() {
+    let start = past_spaces(input, at);
+    let mut value: u64 = 0;
+    for i in start..input.len() {
         let v = input[i];
         if !is_digit(v) {
-            return Got::Value(a, i);
+            return Taken { value, at: i };
         }
-        a = with_digit(a, v);
-        i += 1;
+        value = with_digit(value, v);
     }
-    Got::Value(a, i)
+    Taken {
+        value,
+        at: usize::max(start, input.len()),
+    }
 }
 
-fn get_char(input: &[u64], at: usize) -> Got
+fn get_char(input: &[u64], at: usize) -> Option<Taken>
     ensures { result ≡ char_from (drop at input.now) at }
 {
-    if input.len() <= at {
-        return Got::Empty;
-    }
-    Got::Value(input[at], at + 1)
+    let value = *input.get(at)?;
+    Some(Taken { value, at: at + 1 })
 }
 
-pub fn get(mode: Mode, input: &[u64], at: usize) -> Got
+#[tactic(auto, unfolding(crate::specs::Device::get_of))]
+pub fn get(mode: Mode, input: &[u64], at: usize) -> Option<Taken>
     ensures { result ≡ get_of mode input.now at }
 {
     match mode {
         Mode::Char => get_char(input, at),
-        Mode::Int => get_int(input, at),
-        Mode::Other => Got::Value(0, at),
+        Mode::Int => Some(get_int(input, at)),
+        Mode::Other => Some(Taken { value: 0, at }),
     }
 }

@@ -3,7 +3,6 @@ ghost use Rattle.std.specs.Prelude.{◌≡◌, ◌+◌, ◌^◌, ◌<◌, ◌≤
 ghost use Rattle.testing_device.specs.Device.{decimal, written, put_of};
 ghost use Rattle.testing_device.specs.Room.{left, placed, put_in};
 
-use crate::device::Put;
 use ops::op::Mode;
 
 // Characters that end at the array's end: those from place `from` on.
@@ -37,64 +36,47 @@ fn text_of(value: u64) -> Text
     if value < 0x8000000000000000 {
         return digits_of(value);
     }
-    let digits = digits_of((u64::MAX - value) + 1);
-    let mut chars = digits.chars;
-    let from = digits.from - 1;
-    chars[from] = 45;
-    Text { chars, from }
+    let mut text = digits_of((u64::MAX - value) + 1);
+    text.from -= 1;
+    text.chars[text.from] = 45;
+    text
 }
 
-fn copy(values: &[u64], output: &mut [u64], count: usize)
-    requires { count + length values.now ≤ length output.old }
-    ensures { output.new ≡ placed values.now output.old count }
-{
-    let mut i = 0;
-    while i < values.len() {
-        output[count + i] = values[i];
-        i += 1;
-    }
-}
-
-// The values from place `count` on, if there is room for all of them; no values need no room.
-fn place(values: &[u64], output: &mut [u64], count: usize) -> Put
+// The values from place `count` on, if there is room for all of them; no values need no room. The output count after them.
+fn place(values: &[u64], output: &mut [u64], count: usize) -> Option<usize>
     ensures { left result output.new ≡ put_in values.now output.old count }
 {
-    let n = values.len();
-    if n == 0 {
-        return Put::Written(count);
+    if values.is_empty() {
+        return Some(count);
     }
-    if output.len() <= count {
-        return Put::NoRoom;
+    if output.len().saturating_sub(count) < values.len() {
+        return None;
     }
-    if output.len() - count < n {
-        return Put::NoRoom;
-    }
-    copy(values, output, count);
-    Put::Written(count + n)
+    let end = count + values.len();
+    output[count..end].copy_from_slice(values);
+    Some(end)
 }
 
-fn put_int(value: u64, output: &mut [u64], count: usize) -> Put
+fn put_int(value: u64, output: &mut [u64], count: usize) -> Option<usize>
     ensures { left result output.new ≡ put_in (written value) output.old count }
 {
     let text = text_of(value);
-    let chars = text.chars;
-    let from = text.from;
-    place(&chars[from..], output, count)
+    place(&text.chars[text.from..], output, count)
 }
 
-fn put_char(value: u64, output: &mut [u64], count: usize) -> Put
+fn put_char(value: u64, output: &mut [u64], count: usize) -> Option<usize>
     ensures { left result output.new ≡ put_in (value ∷ []) output.old count }
 {
-    let one = [value; 1];
-    place(&one, output, count)
+    place(&[value], output, count)
 }
 
-pub fn put(mode: Mode, value: u64, output: &mut [u64], count: usize) -> Put
+#[tactic(auto, unfolding(crate::specs::Device::put_of, crate::specs::Room::put_in))]
+pub fn put(mode: Mode, value: u64, output: &mut [u64], count: usize) -> Option<usize>
     ensures { left result output.new ≡ put_in (put_of mode value) output.old count }
 {
     match mode {
         Mode::Char => put_char(value, output, count),
         Mode::Int => put_int(value, output, count),
-        Mode::Other => Put::Written(count),
+        Mode::Other => Some(count),
     }
 }

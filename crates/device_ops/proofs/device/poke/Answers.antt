@@ -1,22 +1,16 @@
 -- `device_ops::device::poke` meets its contract. Assumes nothing.
-use Rattle.basics.specs.Pick.{pick}
 use Rattle.machine_numbers.specs.Numbers.{left}
 use Rattle.device_ops.specs.Device.{poking_of}
-use borrow.Author.Rules.{rules}
 use Rattle.device_ops.proofs.device.poke.Goals as goal
 
-pub poke-requires : goal.poke-requires
-unfolding poking_of left pick
-poke-requires c = search rules
+pub returns-in-Ok : goal.returns-in-Ok
+unfolding poking_of left
+returns-in-Ok c = λ p. simp (c.in-Ok.is, ← c.poke.ensures)
 
-pub returns-in-Sent : goal.returns-in-Sent
-unfolding poking_of left pick
-returns-in-Sent c = λ p. simp (c.in-Sent.is, ← c.poke.ensures)
+pub returns-in-Err-Full : goal.returns-in-Err-Full
+unfolding poking_of left
+returns-in-Err-Full c = λ p. simp (c.in-Err-Full.is, c.in-Err-Full.field-0-is, ← c.poke.ensures)
 
-pub returns-in-Full : goal.returns-in-Full
-unfolding poking_of left pick
-returns-in-Full c = λ p. simp (c.in-Full.is, ← c.poke.ensures)
-
-pub returns-in-NotARing : goal.returns-in-NotARing
-unfolding poking_of left pick
-returns-in-NotARing c = λ p. simp (c.in-NotARing.is, ← c.poke.ensures)
+pub returns-in-Err-NotARing : goal.returns-in-Err-NotARing
+unfolding poking_of left
+returns-in-Err-NotARing c = λ p. simp (c.in-Err-NotARing.is, c.in-Err-NotARing.field-0-is, ← c.poke.ensures)

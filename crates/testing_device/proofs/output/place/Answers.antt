@@ -1,38 +1,20 @@
 -- `testing_device::output::place` meets its contract. Assumes nothing.
-use Rattle.std.proofs.Common.{◌≡◌, ℕ, ◌+◌, ◌<◌, ◌≤◌, List, length, arith, rules, eq-eqb, ne_eqb, le-leb}
-use borrow.Author.Tests.{lt-leb}
-use Rattle.testing_device.specs.declared.device.Put.TheVariants.{Written, NoRoom}
-use Rattle.testing_device.specs.Room.{left, placed, put_in}
-use borrow.Author.Rules.{rules}
+use Rattle.std.proofs.Common.{sym, refl, ◌∙◌, arith}
+use borrow.Author.Tests.{eqb-false}
+use Rattle.std.proofs.lemmas.Slice.{put_mid-paste}
+use Rattle.testing_device.specs.Room.{put_in}
+use Rattle.testing_device.proofs.Outputs.{no_room, all_room, placed_all}
 use Rattle.testing_device.proofs.output.place.Goals as goal
 
-module _ (vs out : List ℕ) (n : ℕ) (some : length vs ≡ 0 → ⊥) where
-  none : length out < n + length vs → left NoRoom out ≡ put_in vs out n
-  unfolding put_in
-  none h = rw (ne_eqb _ _ some, lt-leb _ _ h)
-
-  all : n + length vs ≤ length out → {out' : List ℕ} → out' ≡ placed vs out n → left (Written (n + length vs)) out' ≡ put_in vs out n
-  unfolding put_in
-  all h e = rw (ne_eqb _ _ some, le-leb _ _ h, e)
-
-pub returns-then-n-eq0 : goal.returns-then-n-eq0
+pub returns-then-is_empty : goal.returns-then-is_empty
 unfolding put_in
-returns-then-n-eq0 c = rw (eq-eqb _ _ c.if-n-eq0.true)
+returns-then-is_empty c = rw (sym c.is_empty.ensures ∙ c.if-is_empty.true)
 
-pub returns-then-output-count : goal.returns-then-output-count
-unfolding put_in
-returns-then-output-count c = let a = c.args in none a.values.now a.output.now a.count c.if-n-eq0.false (omega arith)
-
-pub returns-then-output-count-2 : goal.returns-then-output-count-2
-unfolding put_in
-returns-then-output-count-2 c = let a = c.args in none a.values.now a.output.now a.count c.if-n-eq0.false (omega arith)
-
-pub copy-requires : goal.copy-requires
-unfolding put_in
-copy-requires c = search rules
+pub returns-then-saturating_sub-values : goal.returns-then-saturating_sub-values
+returns-then-saturating_sub-values c = sym (no_room _ _ _ (sym c.is_empty.ensures ∙ c.if-is_empty.false) (omega arith))
 
 pub returns : goal.returns
-unfolding put_in
 returns c =
-    let a = c.args in
-    all a.values.now a.output.now a.count c.if-n-eq0.false (omega arith) c.copy.ensures
+    let a = c.args in let some = sym c.is_empty.ensures ∙ c.if-is_empty.false in
+    sym (all_room _ _ _ some (omega (arith, eqb-false _ _ some))
+    (put_mid-paste _ _ _ _ a.values.now _ c.copy_from_slice.ensures.after (omega arith) refl ∙ placed_all a.values.now a.output.now a.count _ refl))
