@@ -6,11 +6,26 @@ use native.Mathlib.Omega.{arith}
 use native.Mathlib.Numerals.{add-one}
 use lib.ListN.{length, get_or, set, take, drop, length-append, take-append-drop, drop_of_length-le}
 use lib.Seq.{take-take, length-take-le, take_all, take_at, take-suc-set, take-set-lt, drop-set-lt, drop-cons, drop-drop, get_or-take, append_snoc}
+use Rattle.std.proofs.lemmas.Bool.Decides.{nat_tests}
 use Rattle.busy.specs.declared.busiest.Op.{Op}
 use mathlib.Core.Bool.{Bool, true, false, cond}
 use lib.Dec.{eqb}
 use Rattle.busy.specs.declared.busiest.Busy.{Busy}
-use Rattle.busy.specs.Busiest.{op, insert, first_of, other_of, with_op, blanks, listed, unlisted, ranked, busiest_of, busy_of}
+use Rattle.std.specs.Ordering.{is_lt, ord_min, ord_max}
+use Rattle.busy.specs.Busiest.{op, busier, busy_order, insert, first_of, other_of, with_op, blanks, listed, unlisted, ranked, busiest_of, busy_of}
+
+-- the busier of two is the library's lesser one
+busier_first : (x y : Op) → is_lt (busy_order x y) ≡ busier x y
+unfolding busier
+busier_first x y = grind (arith, nat_tests)
+
+pub min_first : (x y : Op) → ord_min busy_order y x ≡ first_of x y
+unfolding first_of
+min_first x y = ap (λ (t : Bool). cond t x y) (busier_first x y)
+
+pub max_other : (x y : Op) → ord_max busy_order y x ≡ other_of x y
+unfolding other_of
+max_other x y = ap (λ (t : Bool). cond t y x) (busier_first x y)
 
 -- of the first n slots, i are done and x is still to be put in the others
 unfoldable pub sifted : List Op → ℕ → Op → ℕ → List Op

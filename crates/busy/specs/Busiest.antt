@@ -1,5 +1,7 @@
 -- The ten busiest ops. Assumes nothing.
 use Rattle.std.specs.Prelude.{Bool, true, false, cond, List, [], ◌∷◌, ◌++◌, ℕ, suc, ◌-◌, length, take, drop, replicate, ltb, eqb}
+use Rattle.std.specs.declared.cmp.Ordering.{Ordering}
+use Rattle.std.specs.Ordering.{nat_cmp, on, flip_args, then_cmp}
 use Rattle.busy.specs.declared.busiest.Op.{Op}
 use Rattle.busy.specs.declared.busiest.Busy.{Busy}
 
@@ -9,6 +11,10 @@ op p c = record { place = p; count = c }
 -- "higher count first, lower place on ties"
 unfoldable pub busier : Op → Op → Bool
 busier a b = cond (ltb b.count a.count) true (cond (ltb a.count b.count) false (ltb a.place b.place))
+
+-- the same as an order of the library
+abbrev pub busy_order : Op → Op → Ordering
+busy_order = then_cmp (flip_args (on (λ x. x.count) nat_cmp)) (on (λ x. x.place) nat_cmp)
 
 unfoldable pub first_of : Op → Op → Op
 first_of a b = cond (busier a b) a b

@@ -8,53 +8,36 @@ use kind_table::row;
 pub const TOTAL: u64 = 9007199254740992;
 
 // A comment has the count zero.
+#[tactic(auto, unfolding(crate::specs::Sums::rests))]
 fn rests_at(k: u8, count: u64) -> bool
     ensures { result ≡ rests k count }
 {
-    if k != row::COMMENT {
-        return true;
-    }
-    count == 0
+    k != row::COMMENT || count == 0
 }
 
 // The counts are one per op, a comment's is zero, they add up to the total, and the total is at most 2^53. No sum over 2^53 is made.
 pub fn adds_up(rows: &[u8], counts: &[u64], total: u64) -> bool
     ensures { result ≡ adds_up rows.now counts.now total }
 {
-    if counts.len() != rows.len() {
+    if counts.len() != rows.len() || TOTAL < total {
         return false;
     }
-    if TOTAL < total {
-        return false;
-    }
-    let mut i: usize = 0;
     let mut sum: u64 = 0;
-    while i < counts.len() {
-        let count = counts[i];
-        if !rests_at(rows[i], count) {
+    for (k, count) in rows.iter().zip(counts) {
+        if !rests_at(*k, *count) || TOTAL - sum < *count {
             return false;
         }
-        if TOTAL - sum < count {
-            return false;
-        }
-        sum += count;
-        i += 1;
+        sum += *count;
     }
     sum == total
 }
 
 // The steps that a run may make: its budget, or what is left of the total if that is less.
+#[tactic(auto, unfolding(crate::specs::Sums::allowed))]
 pub fn allowed_steps(budget: u32, total: u64) -> u32
     ensures { result ≡ allowed budget total }
 {
-    if TOTAL <= total {
-        return 0;
-    }
-    let left = TOTAL - total;
-    if budget as u64 <= left {
-        return budget;
-    }
-    left as u32
+    u64::from(budget).min(TOTAL.saturating_sub(total)) as u32
 }
 
 // The total after so many steps more.
@@ -62,5 +45,5 @@ pub fn total_after(total: u64, made: u32) -> u64
     requires { total ≤ most_steps }
     ensures { result ≡ total + made }
 {
-    total + made as u64
+    total + u64::from(made)
 }

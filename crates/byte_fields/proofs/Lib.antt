@@ -1,3 +1,4 @@
 pub mod Storage
 pub mod ValuesAt
 pub mod TextAt
+pub mod Written

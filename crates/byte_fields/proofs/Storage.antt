@@ -1,11 +1,12 @@
 -- What is written over a part of lent storage: one entry, and one part after another. Assumes nothing.
 use mathlib.Core.Path.{◌≡◌, ◌∙◌, refl, sym, ap}
 use mathlib.Core.List.{List, [], ◌∷◌, ◌++◌, append_assoc, append-nil}
-use Prim.Native.Nat.{ℕ, ◌+◌, ◌≤◌, ◌<◌}
+use Prim.Native.Nat.{ℕ, ◌+◌, ◌-◌, ◌≤◌, ◌<◌}
 use native.Mathlib.Nat.{add-zero, zero-add}
 use native.Mathlib.Numerals.{add-one}
 use native.Mathlib.Omega.{arith}
 use lib.ListN.{length, take, drop, set, length-append, length-drop, take-append-drop}
+use borrow.Rule.Slice.PartMut.{put_mid}
 use lib.Seq.{append_snoc, set_split, length-take-le, take_at, drop-append-add, drop-drop}
 use Rattle.byte_fields.specs.Storage.{fill, placed}
 
@@ -20,6 +21,12 @@ placed_one out at v h = rw (append_snoc, add-one) (set_split out at v h)
 pub length_placed : (out : List ℕ) (at : ℕ) (new : List ℕ) → at + length new ≤ length out → length (placed out at new) ≡ length out
 unfolding placed
 length_placed out at new h = simp (length-append, length-drop, length-take-le at out (omega arith)) (omega arith)
+
+-- a part that was lent by its bounds and comes back as `new`
+pub placed_part : (out : List ℕ) (at n : ℕ) (part new : List ℕ) → part ≡ new → length new ≡ n → put_mid at (at + n - at) out part ≡ placed out at new
+unfolding placed
+placed_part out at n part new p h =
+    let e : at + n - at ≡ length new = omega arith in rw (p, e, drop-drop (length new) at out, append_assoc) refl
 
 -- one part, then the next
 pub placed_then : (out : List ℕ) (at : ℕ) (xs ys : List ℕ) (k : ℕ) → at + length xs ≡ k → k ≤ length out

@@ -8,25 +8,21 @@ pub fn copy_bytes(out: &mut [u8], at: usize, bytes: &[u8], from: usize, n: usize
     requires { (at + n ≤ length out.old) × (from + n ≤ length bytes.now) }
     ensures { out.new ≡ placed out.old at (text_at bytes.now from n) }
 {
-    let mut i = 0;
-    while i < n {
-        out[at + i] = bytes[from + i];
-        i += 1;
-    }
+    out[at..at + n].copy_from_slice(&bytes[from..from + n]);
 }
 
 pub fn put_u16(out: &mut [u8], at: usize, n: usize)
     requires { at + 2 ≤ length out.old }
     ensures { out.new ≡ placed out.old at (le16 n) }
 {
-    out[at] = (n % 256) as u8;
-    out[at + 1] = (n / 256 % 256) as u8;
+    let low = (n % 65536) as u16;
+    out[at..at + 2].copy_from_slice(&low.to_le_bytes());
 }
 
 pub fn put_u32(out: &mut [u8], at: usize, n: usize)
     requires { at + 4 ≤ length out.old }
     ensures { out.new ≡ placed out.old at (le32 n) }
 {
-    put_u16(out, at, n);
-    put_u16(out, at + 2, n / 65536);
+    let low = (n % 4294967296) as u32;
+    out[at..at + 4].copy_from_slice(&low.to_le_bytes());
 }

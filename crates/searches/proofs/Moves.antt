@@ -14,8 +14,7 @@ use Rattle.machine_model.specs.Formed.{Each, Rising}
 use Rattle.machine_model.proofs.Each.{each_at, each_end}
 use Rattle.searches.specs.Found.{below, above, sought_in, moves_at, moves_for, moves_for_all}
 use Rattle.searches.proofs.Tables.{past}
-use Rattle.searches.specs.declared.table.Sought.{Sought}
-use Rattle.searches.specs.declared.table.Sought.TheVariants.{There, Missing}
+use Rattle.std.specs.Prelude.{Result, Ok, Err}
 
 -- "never more than the entries there are"
 pub moves_few : (v : ℕ) (qs : List ℕ) → above v qs ≤ length qs
@@ -40,9 +39,9 @@ module _ (v : ℕ) where
   unfolding moves_for
   none_moves qs a = rw (none_above qs a) (by (sought_in v qs))
     where
-      by : (s : Sought) → moves_at s 0 ≡ 0
-      by There = refl
-      by (Missing k) = refl
+      by : (s : Result ℕ ℕ) → moves_at s 0 ≡ 0
+      by (Ok k) = refl
+      by (Err k) = refl
 
 in_order : (vs qs : List ℕ) → Rising vs → Each (λ v. Each (λ q. q < v) qs) vs → moves_for_all vs qs ≡ 0
 unfolding moves_for_all

@@ -2,7 +2,7 @@
 -- others stay. Assumes nothing.
 use mathlib.Core.Path.{◌≡◌, ◌∙◌, refl, ap, sym, subst}
 use mathlib.Core.Bool.{true, false}
-use mathlib.Core.Logic.{◌⊎◌, inl, inr}
+use mathlib.Core.Logic.{◌⊎◌, inl, inr, ⊎_elim}
 use mathlib.Core.List.{List, [], ◌∷◌, ◌++◌, append_assoc}
 use Prim.Native.Nat.{ℕ, zero, suc, ◌+◌, ◌≤◌, ◌<◌}
 use native.Mathlib.Omega.{arith}
@@ -21,7 +21,10 @@ use Rattle.machine_model.specs.Modes.{In}
 use Rattle.machine_model.proofs.Each.{each_at, each_to}
 use Rattle.machine_model.proofs.Meant.{in_at, entry_stays}
 use Rattle.searches.specs.Found.{below, above, sought_in, entered_in, counted_in}
-use Rattle.searches.specs.declared.table.Sought.TheVariants.{There, Missing}
+use Rattle.std.specs.Prelude.{Result, Ok, Err, MatchResult}
+use Rattle.std.specs.Ordering.{nat_cmp}
+use Rattle.std.specs.List.Sorted.{IsBinarySearchResult}
+use Rattle.std.proofs.lemmas.List.Sorted.{searched}
 
 -- ---- a place v and a table that rises
 
@@ -94,6 +97,21 @@ module _ (v : ℕ) where
       on l (stands s g f) = stands (omega arith) g (past q qs l ∙ ap (λ (z : List ℕ). q ∷ z) f)
       on l (belongs s g f) = belongs (omega arith) (λ h. g (omega arith)) (past q qs l ∙ ap (λ (z : List ℕ). q ∷ z) f)
 
+-- a table that rises, at two of its places
+rising : (qs : List ℕ) → Rising qs → (i j : ℕ) → i < j → j < length qs → get_or qs i 0 < get_or qs j 0
+rising [] r i j h l = absurd (omega arith)
+rising (q ∷ qs) r zero zero h l = absurd (omega arith)
+rising (q ∷ qs) r (suc i) zero h l = absurd (omega arith)
+rising (q ∷ qs) r zero (suc j) h l = each_at (λ y. q < y) qs j (omega arith) r.0
+rising (q ∷ qs) r (suc i) (suc j) h l = rising qs r.1 i j (omega arith) (omega arith)
+
+not_falling : (qs : List ℕ) → Rising qs → (i j : ℕ) → i ≤ j → j < length qs → get_or qs i 0 ≤ get_or qs j 0
+not_falling qs r i j h l = by_case (eqb i j) (λ e. let s : i ≡ j = eqb-true i j e in rw s (omega arith)) (λ e.
+    let m = rising qs r i j (apart (eqb-false i j e)) l in omega arith)
+  where
+    apart : (i ≡ j → ⊥) → i < j
+    apart n = omega arith
+
 -- ---- making room: the entries from the i-th to the n-th stand one place higher, and the i-th still where it stood
 
 unfoldable pub raised : ℕ → ℕ → List ℕ → List ℕ
@@ -130,7 +148,7 @@ module _ (v n : ℕ) (ts : List ℕ) (pre : (n ≤ length ts) × Rising (take n 
   here : Known v (take n ts) (below v (take n ts)) (above v (take n ts))
   here = known v (take n ts) pre.1
 
-  sought_is : sought_in v (take n ts) ≡ pick (ltb (below v (take n ts) + above v (take n ts)) n) There (Missing (below v (take n ts)))
+  sought_is : sought_in v (take n ts) ≡ pick (ltb (below v (take n ts) + above v (take n ts)) n) (Ok (below v (take n ts))) (Err (below v (take n ts)))
   unfolding sought_in
   sought_is = rw whole refl
 
@@ -145,9 +163,9 @@ module _ (v n : ℕ) (ts : List ℕ) (pre : (n ≤ length ts) × Rising (take n 
   pub turns : (k : ℕ) → k < n → Side v (get_or ts k 0) k (below v (take n ts))
   turns k b = rw (← get_or-take n ts k 0 b) (side v (take n ts) pre.1 k (omega (arith, whole)))
 
-  pub found_there : (k : ℕ) → k ≡ below v (take n ts) → k < n → get_or ts k 0 ≡ v → There ≡ sought_in v (take n ts)
+  pub found_there : (k : ℕ) → k ≡ below v (take n ts) → k < n → get_or ts k 0 ≡ v → Ok k ≡ sought_in v (take n ts)
   unfolding pick
-  found_there k e b is = rw (sought_is, lt-ltb (below v (take n ts) + above v (take n ts)) n (by here e)) refl
+  found_there k e b is = rw (sought_is, lt-ltb (below v (take n ts) + above v (take n ts)) n (by here e)) (ap (λ (z : ℕ). Ok z) e)
     where
       by : {c a : ℕ} → Known v (take n ts) c a → k ≡ c → c + a < n
       by (stands s g f) e = omega (arith, whole)
@@ -155,7 +173,7 @@ module _ (v n : ℕ) (ts : List ℕ) (pre : (n ≤ length ts) × Rising (take n 
           let l : v < get_or (take n ts) k 0 = rw e (g (omega (arith, whole))) in
           absurd (omega (arith, get_or-take n ts k 0 b))
 
-  pub found_missing : (k : ℕ) → k ≡ below v (take n ts) → (k < n → get_or ts k 0 ≡ v → ⊥) → Missing k ≡ sought_in v (take n ts)
+  pub found_missing : (k : ℕ) → k ≡ below v (take n ts) → (k < n → get_or ts k 0 ≡ v → ⊥) → Err k ≡ sought_in v (take n ts)
   unfolding pick
   found_missing k e none = rw (sought_is, le-ltb (below v (take n ts) + above v (take n ts)) n (by here e), e) refl
     where
@@ -164,6 +182,57 @@ module _ (v n : ℕ) (ts : List ℕ) (pre : (n ≤ length ts) × Rising (take n 
           let b : k < n = omega (arith, whole) in
           absurd (none b (sym (get_or-take n ts k 0 b) ∙ rw e g))
       by (belongs s g f) e = omega (arith, whole)
+
+  -- what the library's search says of the first n
+  abbrev Says : Result ℕ ℕ → Type 0
+  Says r = MatchResult r (λ i. (i < length (take n ts)) × (get_or (take n ts) i 0 ≡ v)) (λ i.
+      (i ≤ length (take n ts)) × ((k : ℕ) → k < i → get_or (take n ts) k 0 < v) × ((k : ℕ) → i ≤ k → k < length (take n ts) → v < get_or (take n ts) k 0))
+
+  same_take : (k : ℕ) → k < n → get_or (take n ts) k 0 ≡ get_or ts k 0
+  same_take k h = get_or-take n ts k 0 h
+
+  there_at : (i : ℕ) → i < n → get_or ts i 0 ≡ v → i ≡ below v (take n ts)
+  there_at i h e =
+      by_case (ltb i (below v (take n ts)))
+      (λ t. let l : i < below v (take n ts) = ltb-true i (below v (take n ts)) t in ⊎_elim (λ w. absurd (omega arith)) (λ w. absurd (omega arith)) (turns i h)) (λ t.
+      let l : below v (take n ts) ≤ i = ltb-false i (below v (take n ts)) t in
+      by_case (ltb (below v (take n ts)) i)
+      (λ u. let m : below v (take n ts) < i = ltb-true (below v (take n ts)) i u in
+      let up = rising (take n ts) pre.1 (below v (take n ts)) i m (omega (arith, whole)) in
+      let one = same_take (below v (take n ts)) (omega arith) in
+      let two = same_take i h in
+      ⊎_elim (λ w. absurd (omega arith)) (λ w. absurd (omega arith)) (turns (below v (take n ts)) (omega arith)))
+      (λ u. let m : i ≤ below v (take n ts) = ltb-false (below v (take n ts)) i u in omega arith))
+
+  missing_at : (i : ℕ) → Says (Err i) → i ≡ below v (take n ts)
+  missing_at i m =
+      by_case (ltb i (below v (take n ts)))
+      (λ t. let l : i < below v (take n ts) = ltb-true i (below v (take n ts)) t in
+      let h : i < n = omega (arith, within) in
+      let up = m.2 i (omega arith) (omega (arith, whole)) in
+      let one = same_take i h in
+      ⊎_elim (λ w. absurd (omega arith)) (λ w. absurd (omega arith)) (turns i h)) (λ t.
+      let l : below v (take n ts) ≤ i = ltb-false i (below v (take n ts)) t in
+      by_case (ltb (below v (take n ts)) i)
+      (λ u. let k : below v (take n ts) < i = ltb-true (below v (take n ts)) i u in
+      let h : below v (take n ts) < n = omega (arith, whole, m.0) in
+      let up = m.1 (below v (take n ts)) k in
+      let one = same_take (below v (take n ts)) h in
+      ⊎_elim (λ w. absurd (omega arith)) (λ w. absurd (omega arith)) (turns (below v (take n ts)) h))
+      (λ u. let k : i ≤ below v (take n ts) = ltb-false (below v (take n ts)) i u in omega arith))
+
+  is_place : (r : Result ℕ ℕ) → Says r → r ≡ sought_in v (take n ts)
+  is_place (Ok i) m =
+      let h : i < n = omega (arith, whole, m.0) in
+      let e = sym (same_take i h) ∙ m.1 in
+      found_there i (there_at i h e) h e
+  is_place (Err i) m = found_missing i (missing_at i m) (λ h e.
+      let up = m.2 i (omega arith) (omega (arith, whole)) in
+      let one = same_take i h in
+      omega arith)
+
+  pub searched_is : (r : Result ℕ ℕ) → IsBinarySearchResult (λ y. nat_cmp y v) (take n ts) r → r ≡ sought_in v (take n ts)
+  searched_is r p = is_place r (searched (take n ts) v r p (not_falling (take n ts) pre.1))
 
   -- v is there, and the table stays: the search says so, or its entry k is v
   entered_same : enter v (take n ts) ≡ take n ts → (n ≡ counted_in v n ts) × (ts ≡ entered_in v n ts)
@@ -177,16 +246,16 @@ module _ (v n : ℕ) (ts : List ℕ) (pre : (n ≤ length ts) × Rising (take n 
   entered_at k b is =
       entered_same (entry_stays v (take n ts) pre.1 (subst (λ (x : ℕ). In x (take n ts)) (get_or-take n ts k 0 b ∙ is) (in_at (take n ts) k (omega (arith, whole)))))
 
-  pub entered_there : There ≡ sought_in v (take n ts) → (n ≡ counted_in v n ts) × (ts ≡ entered_in v n ts)
+  pub entered_there : (k : ℕ) → Ok k ≡ sought_in v (take n ts) → (n ≡ counted_in v n ts) × (ts ≡ entered_in v n ts)
   unfolding pick
-  entered_there e = entered_same (stays here (e ∙ sought_is))
+  entered_there k e = entered_same (stays here (e ∙ sought_is))
     where
-      stays : {b a : ℕ} → Known v (take n ts) b a → There ≡ pick (ltb (b + a) n) There (Missing b) → enter v (take n ts) ≡ take n ts
+      stays : {b a : ℕ} → Known v (take n ts) b a → Ok k ≡ pick (ltb (b + a) n) (Ok b) (Err b) → enter v (take n ts) ≡ take n ts
       stays (stands s g f) e = f
       stays {b} {a} (belongs s g f) e = clash (let t : ltb (b + a) n ≡ false = le-ltb (b + a) n (omega (arith, whole)) in cc)
 
   -- v is missing, and belongs at k
-  module _ (k : ℕ) (e : Missing k ≡ sought_in v (take n ts)) where
+  module _ (k : ℕ) (e : Err k ≡ sought_in v (take n ts)) where
     abbrev Fits : ℕ → Type 0
     Fits a = (k + a ≡ n) × (enter v (take n ts) ≡ take k (take n ts) ++ (v ∷ drop k (take n ts)))
 
@@ -194,7 +263,7 @@ module _ (v n : ℕ) (ts : List ℕ) (pre : (n ≤ length ts) × Rising (take n 
     unfolding pick
     fits = by here (e ∙ sought_is)
       where
-        by : {b a : ℕ} → Known v (take n ts) b a → Missing k ≡ pick (ltb (b + a) n) There (Missing b) → Fits a
+        by : {b a : ℕ} → Known v (take n ts) b a → Err k ≡ pick (ltb (b + a) n) (Ok b) (Err b) → Fits a
         by {b} {a} (stands s g f) e = clash (let t : ltb (b + a) n ≡ true = lt-ltb (b + a) n (omega (arith, whole)) in cc)
         by {b} {a} (belongs s g f) e =
             let t : ltb (b + a) n ≡ false = le-ltb (b + a) n (omega (arith, whole)) in

@@ -1,11 +1,9 @@
 -- The function table, with a place entered: n places are counted in ts. Assumes nothing.
-use Rattle.std.specs.Prelude.{List, [], ◌∷◌, map, ℕ, ◌+◌, length, take, ltb}
+use Rattle.std.specs.Prelude.{Result, Ok, Err, List, [], ◌∷◌, map, ℕ, ◌+◌, length, take, ltb}
 use Rattle.basics.specs.Pick.{pick}
 use Rattle.byte_fields.specs.Storage.{fill}
 use Rattle.machine_model.specs.Step.{enter}
 use Rattle.machine_model.specs.Limited.{count}
-use Rattle.searches.specs.declared.table.Sought.{Sought}
-use Rattle.searches.specs.declared.table.Sought.TheVariants.{There, Missing}
 
 -- 02, ask 2: "Put the new place straight where it belongs. We want fewer moves when a patch opens its routines"
 
@@ -16,15 +14,16 @@ below v qs = count (map (λ q. ltb q v) qs)
 unfoldable pub above : ℕ → List ℕ → ℕ
 above v qs = count (map (λ q. ltb v q) qs)
 
--- what a search for v says: it is there, where an entry is neither below nor above it; or it is missing, and belongs after those below
-unfoldable pub sought_in : ℕ → List ℕ → Sought
+-- what a search for v says: it is there, after those below it, where an entry is neither below nor above it; or it is missing, and belongs after those
+-- below
+unfoldable pub sought_in : ℕ → List ℕ → Result ℕ ℕ
 unfolding pick
-sought_in v qs = pick (ltb (below v qs + above v qs) (length qs)) There (Missing (below v qs))
+sought_in v qs = pick (ltb (below v qs + above v qs) (length qs)) (Ok (below v qs)) (Err (below v qs))
 
 -- how many entries move when v is entered: none where it is there, else those above it; and when one place is entered after the other
-abbrev pub moves_at : Sought → ℕ → ℕ
-moves_at There a = 0
-moves_at (Missing k) a = a
+abbrev pub moves_at : Result ℕ ℕ → ℕ → ℕ
+moves_at (Ok k) a = 0
+moves_at (Err k) a = a
 
 unfoldable pub moves_for : ℕ → List ℕ → ℕ
 moves_for v qs = moves_at (sought_in v qs) (above v qs)

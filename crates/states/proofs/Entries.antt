@@ -1,15 +1,14 @@
--- Loops over the entries of a list: a test of each, the table's rule, and zeros written one after the other. Assumes nothing.
+-- The entries of a list: a test of each, and the loop over the table. Assumes nothing.
 use mathlib.Core.Path.{◌≡◌, refl, ap}
-use mathlib.Core.Bool.{Bool, true, false}
+use mathlib.Core.Bool.{Bool, true, false, ◌&&◌}
+use Rattle.std.specs.List.{list_all}
 use mathlib.Core.List.{List, [], ◌∷◌}
-use Prim.Native.Nat.{ℕ, zero, suc, ◌+◌, ◌-◌, ◌≤◌, ◌<◌}
+use Prim.Native.Nat.{ℕ, suc, ◌+◌, ◌-◌, ◌≤◌, ◌<◌}
 use native.Mathlib.Omega.{arith}
 use native.Mathlib.Numerals.{add-one}
-use lib.ListN.{length, get_or, set, take, drop, get_or-eq_default}
+use lib.ListN.{length, get_or, take, drop, get_or-eq_default}
 use lib.Seq.{drop-cons}
 use borrow.Author.Tests.{lt-leb, le-leb, eq-eqb, ne_eqb}
-use Rattle.byte_fields.specs.Storage.{fill}
-use Rattle.states.specs.Zeros.{zeroed}
 use Rattle.states.specs.Formed.{all_of, names_from}
 
 -- of the first n entries of l, those from i on
@@ -26,20 +25,11 @@ one_left l n i h k =
     let z : n - i ≡ suc (n - (i + 1)) = omega arith in
     rw (z, drop-cons l i 0 k, add-one i) refl
 
--- ---- a test of each entry
-
-pub all_end : (p : ℕ → Bool) (l : List ℕ) (n i : ℕ) → n ≤ i → all_of p (left l n i) ≡ true
+-- the test of each entry is the library's
+pub all_is : (p : ℕ → Bool) (l : List ℕ) → list_all p l ≡ all_of p l
 unfolding all_of
-all_end p l n i h = rw (none_left l n i h) refl
-
-module _ (p : ℕ → Bool) (l : List ℕ) (n i : ℕ) (h : i < n) (k : i < length l) where
-  pub all_on : p (get_or l i 0) ≡ true → all_of p (left l n i) ≡ all_of p (left l n (i + 1))
-  unfolding all_of
-  all_on e = rw (one_left l n i h k, e) refl
-
-  pub all_not : p (get_or l i 0) ≡ false → all_of p (left l n i) ≡ false
-  unfolding all_of
-  all_not e = rw (one_left l n i h k, e) refl
+all_is p [] = refl
+all_is p (x ∷ xs) = ap (λ (b : Bool). p x && b) (all_is p xs)
 
 -- ---- the table: each place at least b, and one of a mark
 
@@ -63,15 +53,3 @@ module _ (ks : List ℕ) (b : ℕ) (l : List ℕ) (n i t : ℕ) (h : i < n) (k :
     pub names_on : get_or ks t 0 ≡ 2 → names_from ks b (left l n i) ≡ names_from ks (t + 1) (left l n (i + 1))
     unfolding names_from
     names_on q = rw (one_left l n i h k, ← is, le-leb b t e, eq-eqb (get_or ks t 0) 2 q) refl
-
--- ---- zeros
-
-zero_more : (l : List ℕ) (i : ℕ) → i < length l → set (zeroed i l) i 0 ≡ zeroed (suc i) l
-unfolding zeroed fill
-zero_more [] i h = absurd (omega arith)
-zero_more (x ∷ xs) zero h = refl
-zero_more (x ∷ xs) (suc i) h = ap (λ (l : List ℕ). 0 ∷ l) (zero_more xs i (omega arith))
-
--- one more zero
-pub zero_on : (l : List ℕ) (i : ℕ) → i < length l → set (zeroed i l) i 0 ≡ zeroed (i + 1) l
-zero_on l i h = rw (add-one i) (zero_more l i h)

@@ -4,118 +4,74 @@ ghost use Rattle.basics.specs.Limits.{most_ops, depth};
 ghost use Rattle.machine_step.specs.Held.{held};
 ghost use Rattle.states.specs.Formed.{has_room, can_start, is_whole, in_limits, in_place, calls_below, refs_within, table_names, is_formed};
 
-use basics::wide::{wide_int, wide_short};
 use kind_table::row;
 use machine_numbers::numbers::{BY_MARK, Numbers};
 use ops::records::Record;
 use patch_reader::reader::Read;
 use testing_device::device::Peeked;
 
+#[tactic(auto, unfolding(crate::specs::Formed::has_room))]
 fn has_room(register: &[u64], table: &[u16], channel: &[u64]) -> bool
     ensures { result ≡ has_room register.now table.now channel.now }
 {
-    if register.len() < Record::LANES {
-        return false;
-    }
-    if table.len() < Read::MARKS {
-        return false;
-    }
-    Peeked::CHANNEL <= channel.len()
+    Record::LANES <= register.len() && Read::MARKS <= table.len() && Peeked::CHANNEL <= channel.len()
 }
 
 // What a fresh run asks: a known call mode, and room.
+#[tactic(auto, unfolding(crate::specs::Formed::can_start, crate::specs::Formed::is_mode))]
 pub fn can_start(mode: u32, register: &[u64], table: &[u16], channel: &[u64]) -> bool
     ensures { result ≡ can_start mode register.now table.now channel.now }
 {
-    if BY_MARK < mode {
-        return false;
-    }
-    has_room(register, table, channel)
+    mode <= BY_MARK && has_room(register, table, channel)
 }
 
 // A tape has no cells, or its first block at least.
+#[tactic(auto, unfolding(crate::specs::Formed::is_whole))]
 fn is_whole(l: usize) -> bool
     ensures { result ≡ is_whole l }
 {
-    if l == 0 {
-        return true;
-    }
-    Numbers::FIRST_BLOCK <= l
+    l == 0 || Numbers::FIRST_BLOCK <= l
 }
 
+#[tactic(auto, unfolding(crate::specs::Formed::in_limits, crate::specs::Formed::is_mode))]
 fn in_limits(h: Numbers) -> bool
     ensures { result ≡ in_limits h }
 {
-    if Numbers::POINTER < h.pointer {
-        return false;
-    }
-    if Numbers::LENGTH < h.length {
-        return false;
-    }
-    if Record::LANES < h.lanes {
-        return false;
-    }
-    if Read::MARKS < h.functions {
-        return false;
-    }
-    if Numbers::CALLS < h.depth {
-        return false;
-    }
-    if Numbers::REFS < h.saved {
-        return false;
-    }
-    if Peeked::CHANNEL < h.waiting {
-        return false;
-    }
-    if Peeked::CHANNEL <= h.first {
-        return false;
-    }
-    if BY_MARK < h.mode {
-        return false;
-    }
-    is_whole(h.length)
+    h.pointer <= Numbers::POINTER
+        && h.length <= Numbers::LENGTH
+        && h.lanes <= Record::LANES
+        && h.functions <= Read::MARKS
+        && h.depth <= Numbers::CALLS
+        && h.saved <= Numbers::REFS
+        && h.waiting <= Peeked::CHANNEL
+        && h.first < Peeked::CHANNEL
+        && h.mode <= BY_MARK
+        && is_whole(h.length)
 }
 
+#[tactic(auto, unfolding(crate::specs::Formed::in_place))]
 fn in_place(h: Numbers, ops: usize, inputs: usize, outputs: usize) -> bool
     ensures { result ≡ in_place h ops inputs outputs }
 {
-    if ops < h.position {
-        return false;
-    }
-    if inputs < h.taken {
-        return false;
-    }
-    h.written <= outputs
+    h.position <= ops && h.taken <= inputs && h.written <= outputs
 }
 
 // The first n saved calls are below the op count.
 fn calls_below(calls: &[u16; Numbers::CALLS], n: usize, ops: usize) -> bool
-    requires { (n ≤ depth) × (length calls.now ≡ depth) }
+    requires { n ≤ depth }
     ensures { result ≡ calls_below calls.now n ops }
 {
-    let mut i: usize = 0;
-    while i < n {
-        if ops <= wide_short(calls[i]) {
-            return false;
-        }
-        i += 1;
-    }
-    true
+    calls[..n].iter().all(|call| usize::from(*call) < ops)
 }
 
 // The first n saved pointers are within their limit.
 fn refs_within(refs: &[u32; Numbers::REFS], n: usize) -> bool
-    requires { (n ≤ depth) × (length refs.now ≡ depth) }
+    requires { n ≤ depth }
     ensures { result ≡ refs_within refs.now n }
 {
-    let mut i: usize = 0;
-    while i < n {
-        if Numbers::POINTER < wide_int(refs[i]) {
-            return false;
-        }
-        i += 1;
-    }
-    true
+    refs[..n]
+        .iter()
+        .all(|pointer| *pointer as usize <= Numbers::POINTER)
 }
 
 // The first n places of the table rise, and each is one of a Function mark.
@@ -123,26 +79,19 @@ fn table_names(table: &[u16], n: usize, rows: &[u8]) -> bool
     requires { (n ≤ length table.now) × (length rows.now ≤ most_ops) }
     ensures { result ≡ table_names table.now n rows.now }
 {
-    let mut i: usize = 0;
-    let mut least: usize = 0;
-    while i < n {
-        let t = wide_short(table[i]);
-        if t < least {
+    let mut least = 0;
+    for i in 0..n {
+        let place = usize::from(table[i]);
+        if place < least || rows.len() <= place || rows[place] != row::FUNCTION {
             return false;
         }
-        if rows.len() <= t {
-            return false;
-        }
-        if rows[t] != row::FUNCTION {
-            return false;
-        }
-        least = t + 1;
-        i += 1;
+        least = place + 1;
     }
     true
 }
 
 // A well-formed state of the patch whose ops have these rows.
+#[tactic(auto, unfolding(crate::specs::Formed::is_formed))]
 pub fn is_formed(
     h: Numbers,
     calls: &[u16; Numbers::CALLS],
@@ -155,22 +104,15 @@ pub fn is_formed(
     output: &[u64],
     inputs: usize,
 ) -> bool
-    requires { (length calls.now ≡ depth) × (length refs.now ≡ depth) × (length rows.now ≤ most_ops) }
+    requires { length rows.now ≤ most_ops }
     ensures { result ≡ is_formed rows.now inputs (held h calls.now refs.now register.now tape.now table.now channel.now output.now) }
 {
-    if !has_room(register, table, channel) {
-        return false;
-    }
-    if !in_limits(h) {
-        return false;
-    }
-    if !in_place(h, rows.len(), inputs, output.len()) {
-        return false;
-    }
-    if !calls_below(calls, h.depth, rows.len()) {
-        return false;
-    }
-    if !refs_within(refs, h.saved) {
+    if !has_room(register, table, channel)
+        || !in_limits(h)
+        || !in_place(h, rows.len(), inputs, output.len())
+        || !calls_below(calls, h.depth, rows.len())
+        || !refs_within(refs, h.saved)
+    {
         return false;
     }
     table_names(table, h.functions, rows)

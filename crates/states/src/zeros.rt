@@ -6,9 +6,5 @@ pub fn zero(lanes: &mut [u64], n: usize)
     requires { n ≤ length lanes.old }
     ensures { lanes.new ≡ zeroed n lanes.old }
 {
-    let mut i: usize = 0;
-    while i < n {
-        lanes[i] = 0;
-        i += 1;
-    }
+    lanes[..n].fill(0);
 }

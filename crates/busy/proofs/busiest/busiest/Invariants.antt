@@ -7,7 +7,4 @@ use Rattle.busy.proofs.busiest.busiest.Given as goal
 
 abbrev pub invariant-loop-i : goal.invariant-loop-i
 invariant-loop-i l =
-    (l.i ≤ length l.counts) × (l.b.n ≤ 10) × (length l.b.ops ≡ 10) × (listed l.b ≡ take 10 (ranked l.i (drop l.i l.counts))) × (unlisted l.b ≡ blanks (10 - l.b.n))
-
-abbrev pub decreases-loop-i : goal.decreases-loop-i
-decreases-loop-i l = l.i
+    (l.b.n ≤ 10) × (length l.b.ops ≡ 10) × (listed l.b ≡ take 10 (ranked l.i (drop l.i l.counts))) × (unlisted l.b ≡ blanks (10 - l.b.n))

@@ -1,5 +1,5 @@
 -- `busy::busiest::put` meets its contract. Assumes nothing.
-use Prim.Native.Nat.{◌≤◌, ◌-◌}
+use Prim.Native.Nat.{◌-◌}
 use mathlib.Core.Path.{◌≡◌}
 use lib.ListN.{length, take, drop}
 use Rattle.busy.specs.Busiest.{insert, blanks}
@@ -8,7 +8,4 @@ use Rattle.busy.proofs.busiest.put.Given as goal
 
 abbrev pub invariant-loop-i : goal.invariant-loop-i
 invariant-loop-i l =
-    (l.i ≤ l.n) × (length l.ops ≡ 10) × (insert l.initial.x (take l.n l.initial.ops) ≡ sifted l.ops l.n l.x l.i) × (drop l.n l.ops ≡ blanks (10 - l.n))
-
-abbrev pub decreases-loop-i : goal.decreases-loop-i
-decreases-loop-i l = l.n - l.i
+    (length l.ops ≡ 10) × (insert l.initial.x (take l.n l.initial.ops) ≡ sifted l.ops l.n l.x l.i) × (drop l.n l.ops ≡ blanks (10 - l.n))

@@ -1,19 +1,10 @@
 -- `byte_fields::write::put_u16` meets its contract. Assumes nothing.
-use Prim.Native.Nat.{◌+◌, ◌%◌, ◌<◌}
-use mathlib.Core.Path.{refl}
-use native.Mathlib.Omega.{arith}
-use lib.ListN.{length, length-set}
+use mathlib.Core.Path.{◌∙◌, refl}
 use Rattle.byte_fields.specs.Bytes.{le16}
-use Rattle.byte_fields.proofs.Storage.{placed_one, placed_snoc}
+use Rattle.byte_fields.proofs.Storage.{placed_part}
+use Rattle.byte_fields.proofs.Written.{bytes_16}
 use Rattle.byte_fields.proofs.write.put_u16.Goals as goal
-
-pub bounds-out-at-2 : goal.bounds-out-at-2
-bounds-out-at-2 c = rw length-set (omega arith)
 
 pub returns : goal.returns
 unfolding le16
-returns c =
-    let a = c.args in
-    let h : a.at < length a.out.now = omega arith in
-    let k : a.at + 1 < length a.out.now = omega arith in
-    rw (placed_one a.out.now a.at (a.n % 256) h) (placed_snoc _ _ _ _ _ refl k)
+returns c = placed_part _ _ _ _ _ (c.copy_from_slice.ensures.after ∙ c.to_le_bytes.ensures ∙ bytes_16 _) refl

@@ -1,15 +1,10 @@
 -- `byte_fields::write::put_u32` meets its contract. Assumes nothing.
-use Prim.Native.Nat.{◌+◌, ◌≤◌}
-use mathlib.Core.Path.{refl, ◌∙◌}
-use native.Mathlib.Omega.{arith}
-use lib.ListN.{length}
+use mathlib.Core.Path.{◌∙◌, refl}
 use Rattle.byte_fields.specs.Bytes.{le16, le32}
-use Rattle.byte_fields.proofs.Storage.{placed_then}
+use Rattle.byte_fields.proofs.Storage.{placed_part}
+use Rattle.byte_fields.proofs.Written.{bytes_32}
 use Rattle.byte_fields.proofs.write.put_u32.Goals as goal
 
 pub returns : goal.returns
 unfolding le16 le32
-returns c =
-    let a = c.args in
-    let h : a.at + 2 ≤ length a.out.now = omega arith in
-    c.put_u16-2.ensures ∙ rw c.put_u16.ensures (placed_then a.out.now a.at _ _ (a.at + 2) refl h)
+returns c = placed_part _ _ _ _ _ (c.copy_from_slice.ensures.after ∙ c.to_le_bytes.ensures ∙ bytes_32 _) refl

@@ -1,22 +1,17 @@
 -- `states::formed::refs_within` meets its contract. Assumes nothing.
-use mathlib.Core.Path.{◌∙◌, refl, sym}
-use native.Mathlib.Omega.{arith}
-use native.Mathlib.Nat.{sub-zero}
-use borrow.Author.Tests.{lt-leb, le-leb}
+use mathlib.Core.Path.{◌∙◌}
+use lib.Dec.{leb}
+use lib.ListN.{take}
+use Rattle.std.proofs.lemmas.Iterator.{YieldsList-from_slice}
+use Rattle.std.proofs.lemmas.Iterator.Search.{all_from_yields_List}
+use Rattle.basics.specs.Limits.{farthest}
+use Rattle.basics.proofs.Tests.{tests}
 use Rattle.states.specs.Formed.{refs_within}
-use Rattle.states.proofs.Entries.{all_end, all_on, all_not}
-use borrow.Author.Rules.{rules}
+use Rattle.states.proofs.Entries.{all_is}
 use Rattle.states.proofs.formed.refs_within.Goals as goal
 
-pub loop-i-init : goal.loop-i-init
-unfolding refs_within
-loop-i-init c = (search rules, rw sub-zero refl)
-
-pub returns-then-wide_int-gt-POINTER : goal.returns-then-wide_int-gt-POINTER
-returns-then-wide_int-gt-POINTER c = sym (c.loop-i.invariant.1 ∙ all_not _ _ _ _ c.loop-i-test.true (omega arith) (lt-leb _ _ (rw c.wide_int.ensures.0 at c.if-wide_int-gt-POINTER.true)))
-
-pub loop-i-preserved : goal.loop-i-preserved
-loop-i-preserved c = (search rules, c.loop-i.invariant.1 ∙ all_on _ _ _ _ c.loop-i-test.true (omega arith) (le-leb _ _ (rw c.wide_int.ensures.0 at c.if-wide_int-gt-POINTER.false)))
-
 pub returns : goal.returns
-returns c = sym (c.loop-i.invariant.1 ∙ all_end _ _ _ _ c.loop-i-test.false)
+unfolding refs_within
+returns c =
+    all_from_yields_List (λ pointer. leb pointer farthest) _ _ _ c.all.ensures.ran (YieldsList-from_slice (take c.args.n c.args.refs.now) (cc)) (λ x b q k. search tests)
+    ∙ all_is (λ pointer. leb pointer farthest) (take c.args.n c.args.refs.now)
