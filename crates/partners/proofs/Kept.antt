@@ -368,16 +368,8 @@ module _ (ks : List ℕ) (few : length ks ≤ most_ops) where
 
   -- what a turn asks, and what it leaves
   module _ (i n : ℕ) (es ls ps ts : List ℕ) (z : 0 < i) (h : Kept ks i (passed n es ls ps ts)) where
-    pub pass_asks : (length es ≡ 4097) × (length ls ≡ 4097) × (i - 1 < length ps) × (i - 1 < length ts) × (length ps ≡ most_ops) × (n < 4096)
-    pass_asks =
-        let l = length-replicate {A = ℕ} most_ops nowhere in (
-          h.ends_room,
-          h.elses_room,
-          omega (arith, z, h.within, h.partners.long, room),
-          omega (arith, z, h.within, h.turns.long, room),
-          h.partners.long ∙ l,
-          omega (arith, z, h.high),
-        )
+    pub pass_asks : (i - 1 < most_ops) × (n < 4096)
+    pass_asks = (omega (arith, z, h.within, few), omega (arith, z, h.high))
 
     pub kept_turn : (q : Pass) → q ≡ pass_of (get_or ks (i - 1) 0) (i - 1) n es ls ps ts → Kept ks (i - 1) q
     kept_turn q s =

@@ -6,7 +6,7 @@ use Rattle.partners.proofs.scan.find_partners.Given as goal
 
 abbrev pub invariant-scan : goal.invariant-scan
 invariant-scan l =
-    Kept l.rows l.i (passed l.n l.ends l.elses l.partners l.turns) × Marks l.rows l.initial.marks l.i l.m l.marks
+    Kept l.rows l.i (passed l.frames.top l.frames.ends l.frames.elses l.partners l.turns) × Marks l.rows l.initial.marks l.i l.m l.marks
 
 abbrev pub decreases-scan : goal.decreases-scan
 decreases-scan l = l.i
