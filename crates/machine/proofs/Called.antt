@@ -71,17 +71,17 @@ module _ (s ks ns ds ps : List ℕ) (h : IsLoaded s ks ns ds ps) where
   pub marks_few : length (functions_of ks) ≤ most_marks
   marks_few = rw h.rows (few_functions s)
 
-  pub is_read : (es es₀ ts ts₀ : List ℕ) (f : ℕ) (fs fs₀ : List ℕ)
+  pub is_read : (m : ℕ) → m ≡ length ks → (es es₀ ts ts₀ : List ℕ) (f : ℕ) (fs fs₀ : List ℕ)
       → (es ≡ fill (partners_of ks) es₀) × ((ts ≡ fill (turns_of ks) ts₀) × ((f + length (functions_of ks) ≡ most_marks) × (fs ≡ fill_end (functions_of ks) fs₀)))
       → length fs₀ ≡ most_marks
-      → IsRead s (code ks ns ds ps (take (length ks) es) (take (length ks) ts) (take (most_marks - f) (drop f fs)) s)
+      → IsRead s (code ks ns ds ps (take m es) (take m ts) (take (most_marks - f) (drop f fs)) s)
   unfolding code_of
-  is_read es es₀ ts ts₀ f fs fs₀ p n =
+  is_read m k es es₀ ts ts₀ f fs fs₀ p n =
       record {
         good = h.good;
         read = rw (
-          start_lent (partners_of ks) es es₀ p.0 (length ks) (many_partners ks),
-          start_lent (turns_of ks) ts ts₀ p.1.0 (length ks) (many_turns ks),
+          start_lent (partners_of ks) es es₀ p.0 m (many_partners ks ∙ sym k),
+          start_lent (turns_of ks) ts ts₀ p.1.0 m (many_turns ks ∙ sym k),
           end_lent (functions_of ks) fs fs₀ f (p.1.1.0 ∙ sym n) p.1.1.1 most_marks n,
           h.rows,
           h.counts,

@@ -16,6 +16,7 @@ use Rattle.file_laws.proofs.Loaded.{few, part_is, part_length}
 use Rattle.partners.specs.Columns.{nowhere, partners_of, turns_of, functions_of, fill_end}
 use Rattle.partners.specs.Read.{told_of, patch_read}
 use Rattle.partners.specs.declared.patch.Patch.{Patch}
+use Rattle.partners.proofs.Whole.{told_ops}
 use Rattle.partners.proofs.Lent.{few_functions, end_long}
 use Rattle.machine_step.specs.Held.{code}
 use Rattle.machine_run.specs.Ready.{IsRead}
@@ -27,10 +28,6 @@ told_number : (l : Loaded) → (told_of (read_of l)).number ≡ l.number
 unfolding read_of
 told_number l = by_case (eqb l.number 0) (λ t. rw t (sym (eqb-true l.number 0 t))) (λ f. rw f refl)
 
-told_ops : (l : Loaded) → (told_of (read_of l)).ops ≡ length l.items
-unfolding read_of
-told_ops l = by_case (eqb l.number 0) (λ t. rw t refl) (λ f. rw f refl)
-
 told_place : (l : Loaded) → (l.number ≡ 0 → ⊥) → (told_of (read_of l)).place ≡ l.place
 unfolding read_of
 told_place l z = rw (ne_eqb l.number 0 z) refl
@@ -39,7 +36,7 @@ module _ (s : List ℕ) (q : Patch) (e : q ≡ patch_read s) where
   -- what reading answered
   many : q.ops ≡ length (patch_of s).items
   unfolding patch_read
-  many = rw e (told_ops (patch_of s))
+  many = rw e (told_ops s _ refl)
 
   number_is : q.number ≡ (patch_of s).number
   unfolding patch_read
@@ -53,8 +50,8 @@ module _ (s : List ℕ) (q : Patch) (e : q ≡ patch_read s) where
   rows_are : take q.ops q.rows ≡ map row_in (patch_of s).items
   rows_are = part_is s q.ops many row_in q.rows (replicate most_ops 0) loaded.0
 
-  many_rows_lem : length (take q.ops q.rows) ≡ q.ops
-  many_rows_lem = sym (part_length s q.ops many row_in q.rows (replicate most_ops 0) loaded.0)
+  op_rows : q.ops ≡ length (take q.ops q.rows)
+  op_rows = part_length s q.ops many row_in q.rows (replicate most_ops 0) loaded.0
 
   pub found : (q.partners ≡ fill (partners_of (take q.ops q.rows)) (replicate most_ops nowhere)) × ((q.turns ≡ fill (turns_of (take q.ops q.rows)) (replicate most_ops nowhere))
       × ((q.first + length (functions_of (take q.ops q.rows)) ≡ most_marks) × (q.marks ≡ fill_end (functions_of (take q.ops q.rows)) (replicate most_marks nowhere))))
@@ -68,9 +65,7 @@ module _ (s : List ℕ) (q : Patch) (e : q ≡ patch_read s) where
       → IsRead s (code (take q.ops q.rows) (take q.ops q.counts) (take q.ops q.needs) (take q.ops q.payloads) (take q.ops q.partners) (take q.ops q.turns) (take (length q.marks - q.first) (drop q.first q.marks)) s)
   is_handed z =
       let l = is_loaded s q.ops (sym number_is ∙ z) many _ _ _ _ loaded.0 loaded.1.0 loaded.1.1.0 loaded.1.1.1 in
-      let part = λ (n m : ℕ). code (take q.ops q.rows) (take q.ops q.counts) (take q.ops q.needs) (take q.ops q.payloads) (take n q.partners) (take n q.turns) (take (m - q.first) (drop q.first q.marks)) s in
-      subst (λ (m : ℕ). IsRead s (part q.ops m)) (sym many_marks)
-      (subst (λ (n : ℕ). IsRead s (part n most_marks)) many_rows_lem (is_read s _ _ _ _ l _ _ _ _ _ _ _ found (length-replicate {A = ℕ} most_marks nowhere)))
+      rw many_marks (is_read s _ _ _ _ l q.ops op_rows _ _ _ _ _ _ _ found (length-replicate {A = ℕ} most_marks nowhere))
 
   -- what is lent is within the columns
   pub few_handed : q.ops ≤ most_ops

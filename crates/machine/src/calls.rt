@@ -131,7 +131,7 @@ impl Machine {
 
     // Steps until the machine is finished, a step is refused, or so many are made.
     pub fn run(
-        self,
+        mut self,
         bytes: &[u8],
         register: &mut [u64],
         tape: &mut [u64],
@@ -195,7 +195,7 @@ impl Machine {
 
     // One step: a run of at most one. Where none was made its answer says why.
     pub fn step(
-        self,
+        mut self,
         bytes: &[u8],
         register: &mut [u64],
         tape: &mut [u64],
@@ -215,9 +215,10 @@ impl Machine {
         } else {
             Answer::Went
         };
+        self = ran.machine;
         Stepped {
             answer,
-            machine: ran.machine,
+            machine: self,
         }
     }
 }

@@ -42,8 +42,7 @@ impl Machine {
         zero(tape, cells);
         zero(tally, n);
         m.run_loaded(
-            &read, n, bytes, register, tape, table, channel, input, output, tally, true,
-            budget,
+            &read, n, bytes, register, tape, table, channel, input, output, tally, true, budget,
         )
     }
 }
