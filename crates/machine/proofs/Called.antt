@@ -65,6 +65,9 @@ is_loaded s n z e ks₀ ns₀ ds₀ ps₀ a b c d =
 
 -- and with what the pass finds
 module _ (s ks ns ds ps : List ℕ) (h : IsLoaded s ks ns ds ps) where
+  pub ops_many : (n : ℕ) → n ≡ length (patch_of s).items → n ≡ length ks
+  ops_many n e = rw (h.rows, length-map (patch_of s).items row_in) e
+
   pub rows_few : length ks ≤ most_ops
   rows_few = rw (h.rows, length-map (patch_of s).items row_in) (few_items s)
 
@@ -156,24 +159,24 @@ module _ (s input : List ℕ) where
 
   -- ---- a fresh run, where b is the answer of the test of the mode and the lent room
 
-  module _ (o : ℕ) (q : Ok o ≡ read_of (patch_of s)) (m : Machine) (mode : ℕ) (f : m ≡ fresh_of mode) (d : Slices) (b : Bool)
+  module _ (count : ℕ) (q : Ok count ≡ read_of (patch_of s)) (m : Machine) (mode : ℕ) (f : m ≡ fresh_of mode) (d : Slices) (b : Bool)
       (e : b ≡ can_start mode d.register d.table d.channel) where
     pub fresh_cramped : not b ≡ true → (n : ℕ) → ended NotAState 0 (lent m d) ≡ fresh_call s input n mode d
     unfolding fresh_call
-    fresh_cramped h n = rw (f, eq-eqb (patch_of s).number 0 (good_file s o q), ← e, not-true b h) refl
+    fresh_cramped h n = rw (f, eq-eqb (patch_of s).number 0 (good_file s count q), ← e, not-true b h) refl
 
-    ops_are : o ≡ length (code_of s).rows
-    ops_are = good_ops s o q ∙ sym (many_rows s)
+    ops_are : count ≡ length (code_of s).rows
+    ops_are = good_ops s count q ∙ sym (many_rows s)
 
     module _ (h : not b ≡ false) where
-      pub fresh_uneven : (length d.tally ≡ o → ⊥) → (n : ℕ) → ended NotAState 0 (lent m d) ≡ fresh_call s input n mode d
+      pub fresh_uneven : (length d.tally ≡ count → ⊥) → (n : ℕ) → ended NotAState 0 (lent m d) ≡ fresh_call s input n mode d
       unfolding fresh_call
       fresh_uneven k n =
-          rw (f, eq-eqb (patch_of s).number 0 (good_file s o q), ← e, not-false b h, ne_eqb (length d.tally) (length (code_of s).rows) (λ j. k (j ∙ sym ops_are))) refl
+          rw (f, eq-eqb (patch_of s).number 0 (good_file s count q), ← e, not-false b h, ne_eqb (length d.tally) (length (code_of s).rows) (λ j. k (j ∙ sym ops_are))) refl
 
       -- the run of the fresh machine over the zeros that are written
-      pub fresh_called : length d.tally ≡ o → (g' t' cs' : List ℕ) → g' ≡ zeroed 1024 d.register → t' ≡ zeroed (length d.tape) d.tape
-          → cs' ≡ zeroed o d.tally → length g' ≡ length d.register → (n : ℕ)
+      pub fresh_called : length d.tally ≡ count → (g' t' cs' : List ℕ) → g' ≡ zeroed 1024 d.register → t' ≡ zeroed (length d.tape) d.tape
+          → cs' ≡ zeroed count d.tally → length g' ≡ length d.register → (n : ℕ)
           → run_call s input n (lent m (slices g' t' d.table d.channel d.output cs')) ≡ fresh_call s input n mode d
       unfolding run_call fresh_call fresh_of
       fresh_called j g' t' cs' zg zt zc k n =
@@ -184,8 +187,8 @@ module _ (s input : List ℕ) where
           let c : is_formed ks (length input) (lent (fresh_of mode) w).held ≡ true
           = fresh_state ks (length input) mode w (as_long mode d.register g' d.table d.channel k ∙ sym e ∙ not-false b h) in
           let o : is_formed ks (length input) (lent m w).held ≡ true = rw f c in
-          let p : adds_up ks cs' m.total ≡ true = rw f (fresh_added ks d.tally cs' o j (sym ops_are) zc) in
-          rw (eq-eqb (patch_of s).number 0 (good_file s o q), o, p, ← e, not-false b h, eq-eqb (length d.tally) (length ks) even)
+          let p : adds_up ks cs' m.total ≡ true = rw f (fresh_added ks d.tally cs' count j (sym ops_are) zc) in
+          rw (eq-eqb (patch_of s).number 0 (good_file s count q), o, p, ← e, not-false b h, eq-eqb (length d.tally) (length ks) even)
           (ap (λ (v : Tallied). tally_run s input n v) over)
 
   -- ---- a bad file

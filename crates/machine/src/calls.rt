@@ -1,6 +1,6 @@
 // A run and a step. Each reads the patch first, then tests the state, then works.
-ghost use Rattle.std.specs.Prelude.{◌≡◌, ◌≤◌, take};
-ghost use Rattle.basics.specs.Limits.{most_ops};
+ghost use Rattle.std.specs.Prelude.{◌≡◌, length, take};
+ghost use Rattle.ops.specs.Patch.{patch_of};
 ghost use Rattle.partners.specs.Read.{patch_read};
 ghost use Rattle.busy.specs.Sums.{adds_up};
 ghost use Rattle.machine_step.specs.Held.{code_in};
@@ -104,7 +104,7 @@ impl Machine {
         stand: bool,
         budget: u32,
     ) -> Ran
-        requires few { n ≤ most_ops }
+        requires ops { n ≡ length (patch_of bytes.now).items }
         requires loaded { IsLoaded bytes.now (take n read.now.rows) (take n read.now.counts) (take n read.now.needs) (take n read.now.payloads) }
         requires sums { stand ≡ adds_up (take n read.now.rows) tally.old self.total }
         ensures { ran_to result (slices register.new tape.new table.new channel.new output.new tally.new) ≡ run_call bytes.now input.now budget (lent self (slices register.old tape.old table.old channel.old output.old tally.old)) }
