@@ -9,6 +9,8 @@ use lib.Dec.{leb, eqb}
 use lib.ListN.{length, get_or, length-map, get_or-map, get_or-eq_default}
 use borrow.Author.Tests.{leb-true, leb-false, eqb-true}
 use Rattle.basics.proofs.Tests.{by_case}
+use Rattle.kind_table.specs.declared.shape.Shape.{Shape}
+use Rattle.kind_table.specs.declared.shape.Shape.TheVariants.{Values}
 use Rattle.kind_table.specs.Rows as row
 use Rattle.kind_table.specs.Kinds.{shape, kind_at, run_need}
 use Rattle.ops.specs.Record.{length_ok, count_of}
@@ -146,11 +148,11 @@ module _ (s : List ℕ) (i : ℕ) (h : i < length (code_of s).rows) where
   fitted : (k : ℕ) → get_or (code_of s).rows i 0 ≡ k → length_ok (shape (kind_at k)) len ≡ true
   fitted k e = subst (λ (z : ℕ). length_ok (shape (kind_at z)) len ≡ true) (sym (kind_is s i) ∙ e) whole.fits
 
-  values_in : (k : ℕ) → shape (kind_at k) ≡ 2 → get_or (code_of s).rows i 0 ≡ k → get_or (code_of s).payloads i 0 + 8 * get_or (code_of s).counts i 0 ≤ length s
+  values_in : (k : ℕ) → shape (kind_at k) ≡ Values → get_or (code_of s).rows i 0 ≡ k → get_or (code_of s).payloads i 0 + 8 * get_or (code_of s).counts i 0 ≤ length s
   unfolding count_of
   values_in k q e =
-      let n : (item_of s i).count ≡ count_of s 2 (item_of s i).payload len
-      = whole.counts ∙ ap (λ (z : ℕ). count_of s z (item_of s i).payload len) (ap (λ (z : ℕ). shape (kind_at z)) (sym (kind_is s i) ∙ e) ∙ q) in
+      let n : (item_of s i).count ≡ count_of s Values (item_of s i).payload len
+      = whole.counts ∙ ap (λ (z : Shape). count_of s z (item_of s i).payload len) (ap (λ (z : ℕ). shape (kind_at z)) (sym (kind_is s i) ∙ e) ∙ q) in
       omega (arith, place_is s i, count_is s i, n, within)
 
   -- n bytes of a payload that has m of them

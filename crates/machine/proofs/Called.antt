@@ -6,15 +6,16 @@ use Prim.Native.Nat.{ℕ, ◌+◌, ◌-◌, ◌≤◌}
 use native.Mathlib.Omega.{arith}
 use lib.ListN.{length, take, drop, replicate, length-map}
 use borrow.Author.Tests.{eq-eqb, ne_eqb, le-leb, not-true, not-false}
+use Rattle.std.proofs.Common.{Result, Ok, Err}
 use Rattle.basics.specs.Limits.{most_ops, most_marks}
 use Rattle.basics.proofs.Tests.{and_left, and_right}
 use Rattle.byte_fields.specs.Storage.{fill}
 use Rattle.ops.specs.Patch.{row_in, count_in, need_in, payload_in, patch_of}
 use Rattle.answers.specs.declared.run.Answer.TheVariants.{BadFile, NotAState}
 use Rattle.patch_reader.specs.Answer.{read_of}
-use Rattle.patch_reader.specs.declared.reader.Read.{Read}
+use Rattle.patch_reader.specs.declared.reader.Unread.{Unread}
 use Rattle.file_laws.proofs.Items.{few_items}
-use Rattle.file_laws.proofs.Loaded.{number_is, good_file, bad_file, bad_place, part_is}
+use Rattle.file_laws.proofs.Loaded.{good_file, good_ops, bad_file, bad_number, bad_place, part_is}
 use Rattle.partners.specs.Columns.{partners_of, turns_of, functions_of, fill_end}
 use Rattle.partners.proofs.Lent.{few_functions, start_lent, end_lent, many_partners, many_turns}
 use Rattle.busy.specs.Sums.{most_steps, allowed, adds_up}
@@ -48,39 +49,42 @@ as_long mode g g' ts ch e = rw e refl
 pub few_rows : (s : List ℕ) (x : Code) → IsRead s x → length x.rows ≤ most_ops
 few_rows s x h = omega (arith, ap (λ (y : Code). length y.rows) h.read, many_rows s, few_items s)
 
--- a good file, as `load` leaves it: its ops in the first entries of the four arrays
-pub is_loaded : (s : List ℕ) (r : Read) (ks ns ds ps ks₀ ns₀ ds₀ ps₀ : List ℕ)
-    → (r ≡ read_of (patch_of s)) × ((ks ≡ fill (map row_in (patch_of s).items) ks₀) × ((ns ≡ fill (map count_in (patch_of s).items) ns₀)
-    × ((ds ≡ fill (map need_in (patch_of s).items) ds₀) × (ps ≡ fill (map payload_in (patch_of s).items) ps₀))))
-    → r.number ≡ 0 → IsLoaded s (take r.ops ks) (take r.ops ns) (take r.ops ds) (take r.ops ps)
-is_loaded s r ks ns ds ps ks₀ ns₀ ds₀ ps₀ l z =
+-- a good file of n ops, as `load` leaves it: the ops in the first entries of the four columns
+pub is_loaded : (s : List ℕ) (n : ℕ) → (patch_of s).number ≡ 0 → n ≡ length (patch_of s).items → {ks ns ds ps : List ℕ} (ks₀ ns₀ ds₀ ps₀ : List ℕ)
+    → ks ≡ fill (map row_in (patch_of s).items) ks₀ → ns ≡ fill (map count_in (patch_of s).items) ns₀
+    → ds ≡ fill (map need_in (patch_of s).items) ds₀ → ps ≡ fill (map payload_in (patch_of s).items) ps₀
+    → IsLoaded s (take n ks) (take n ns) (take n ds) (take n ps)
+is_loaded s n z e ks₀ ns₀ ds₀ ps₀ a b c d =
     record {
-      good = good_file s r l.0 z;
-      rows = part_is s r l.0 row_in ks ks₀ l.1.0;
-      counts = part_is s r l.0 count_in ns ns₀ l.1.1.0;
-      needs = part_is s r l.0 need_in ds ds₀ l.1.1.1.0;
-      payloads = part_is s r l.0 payload_in ps ps₀ l.1.1.1.1;
+      good = z;
+      rows = part_is s n e row_in _ ks₀ a;
+      counts = part_is s n e count_in _ ns₀ b;
+      needs = part_is s n e need_in _ ds₀ c;
+      payloads = part_is s n e payload_in _ ps₀ d;
     }
 
 -- and with what the pass finds
 module _ (s ks ns ds ps : List ℕ) (h : IsLoaded s ks ns ds ps) where
+  pub ops_many : (n : ℕ) → n ≡ length (patch_of s).items → n ≡ length ks
+  ops_many n e = rw (h.rows, length-map (patch_of s).items row_in) e
+
   pub rows_few : length ks ≤ most_ops
   rows_few = rw (h.rows, length-map (patch_of s).items row_in) (few_items s)
 
   pub marks_few : length (functions_of ks) ≤ most_marks
   marks_few = rw h.rows (few_functions s)
 
-  pub is_read : (es es₀ ts ts₀ : List ℕ) (f : ℕ) (fs fs₀ : List ℕ)
+  pub is_read : (m : ℕ) → m ≡ length ks → (es es₀ ts ts₀ : List ℕ) (f : ℕ) (fs fs₀ : List ℕ)
       → (es ≡ fill (partners_of ks) es₀) × ((ts ≡ fill (turns_of ks) ts₀) × ((f + length (functions_of ks) ≡ most_marks) × (fs ≡ fill_end (functions_of ks) fs₀)))
       → length fs₀ ≡ most_marks
-      → IsRead s (code ks ns ds ps (take (length ks) es) (take (length ks) ts) (take (most_marks - f) (drop f fs)) s)
+      → IsRead s (code ks ns ds ps (take m es) (take m ts) (take (most_marks - f) (drop f fs)) s)
   unfolding code_of
-  is_read es es₀ ts ts₀ f fs fs₀ p n =
+  is_read m k es es₀ ts ts₀ f fs fs₀ p n =
       record {
         good = h.good;
         read = rw (
-          start_lent (partners_of ks) es es₀ p.0 (length ks) (many_partners ks),
-          start_lent (turns_of ks) ts ts₀ p.1.0 (length ks) (many_turns ks),
+          start_lent (partners_of ks) es es₀ p.0 m (many_partners ks ∙ sym k),
+          start_lent (turns_of ks) ts ts₀ p.1.0 m (many_turns ks ∙ sym k),
           end_lent (functions_of ks) fs fs₀ f (p.1.1.0 ∙ sym n) p.1.1.1 most_marks n,
           h.rows,
           h.counts,
@@ -155,25 +159,24 @@ module _ (s input : List ℕ) where
 
   -- ---- a fresh run, where b is the answer of the test of the mode and the lent room
 
-  module _ (r : Read) (q : r ≡ read_of (patch_of s)) (z : r.number ≡ 0) (m : Machine) (mode : ℕ) (f : m ≡ fresh_of mode) (d : Slices) (b : Bool)
+  module _ (count : ℕ) (q : Ok count ≡ read_of (patch_of s)) (m : Machine) (mode : ℕ) (f : m ≡ fresh_of mode) (d : Slices) (b : Bool)
       (e : b ≡ can_start mode d.register d.table d.channel) where
     pub fresh_cramped : not b ≡ true → (n : ℕ) → ended NotAState 0 (lent m d) ≡ fresh_call s input n mode d
     unfolding fresh_call
-    fresh_cramped h n = rw (f, eq-eqb (patch_of s).number 0 (good_file s r q z), ← e, not-true b h) refl
+    fresh_cramped h n = rw (f, eq-eqb (patch_of s).number 0 (good_file s count q), ← e, not-true b h) refl
 
-    ops_are : r.ops ≡ length (code_of s).rows
-    unfolding read_of
-    ops_are = ap (λ (y : Read). y.ops) q ∙ sym (many_rows s)
+    ops_are : count ≡ length (code_of s).rows
+    ops_are = good_ops s count q ∙ sym (many_rows s)
 
     module _ (h : not b ≡ false) where
-      pub fresh_uneven : (length d.tally ≡ r.ops → ⊥) → (n : ℕ) → ended NotAState 0 (lent m d) ≡ fresh_call s input n mode d
+      pub fresh_uneven : (length d.tally ≡ count → ⊥) → (n : ℕ) → ended NotAState 0 (lent m d) ≡ fresh_call s input n mode d
       unfolding fresh_call
       fresh_uneven k n =
-          rw (f, eq-eqb (patch_of s).number 0 (good_file s r q z), ← e, not-false b h, ne_eqb (length d.tally) (length (code_of s).rows) (λ j. k (j ∙ sym ops_are))) refl
+          rw (f, eq-eqb (patch_of s).number 0 (good_file s count q), ← e, not-false b h, ne_eqb (length d.tally) (length (code_of s).rows) (λ j. k (j ∙ sym ops_are))) refl
 
       -- the run of the fresh machine over the zeros that are written
-      pub fresh_called : length d.tally ≡ r.ops → (g' t' cs' : List ℕ) → g' ≡ zeroed 1024 d.register → t' ≡ zeroed (length d.tape) d.tape
-          → cs' ≡ zeroed r.ops d.tally → length g' ≡ length d.register → (n : ℕ)
+      pub fresh_called : length d.tally ≡ count → (g' t' cs' : List ℕ) → g' ≡ zeroed 1024 d.register → t' ≡ zeroed (length d.tape) d.tape
+          → cs' ≡ zeroed count d.tally → length g' ≡ length d.register → (n : ℕ)
           → run_call s input n (lent m (slices g' t' d.table d.channel d.output cs')) ≡ fresh_call s input n mode d
       unfolding run_call fresh_call fresh_of
       fresh_called j g' t' cs' zg zt zc k n =
@@ -184,17 +187,21 @@ module _ (s input : List ℕ) where
           let c : is_formed ks (length input) (lent (fresh_of mode) w).held ≡ true
           = fresh_state ks (length input) mode w (as_long mode d.register g' d.table d.channel k ∙ sym e ∙ not-false b h) in
           let o : is_formed ks (length input) (lent m w).held ≡ true = rw f c in
-          let p : adds_up ks cs' m.total ≡ true = rw f (fresh_added ks d.tally cs' r.ops j (sym ops_are) zc) in
-          rw (eq-eqb (patch_of s).number 0 (good_file s r q z), o, p, ← e, not-false b h, eq-eqb (length d.tally) (length ks) even)
+          let p : adds_up ks cs' m.total ≡ true = rw f (fresh_added ks d.tally cs' count j (sym ops_are) zc) in
+          rw (eq-eqb (patch_of s).number 0 (good_file s count q), o, p, ← e, not-false b h, eq-eqb (length d.tally) (length ks) even)
           (ap (λ (v : Tallied). tally_run s input n v) over)
 
   -- ---- a bad file
 
-  module _ (r : Read) (q : r ≡ read_of (patch_of s)) (z : r.number ≡ 0 → ⊥) where
-    pub run_bad : (n : ℕ) (w : Tallied) → ended (BadFile r.number r.place) 0 w ≡ run_call s input n w
-    unfolding run_call
-    run_bad n w = rw (number_is s r q, bad_place s r q z, ne_eqb (patch_of s).number 0 (bad_file s r q z)) refl
+  pub run_bad : {number place : ℕ} → number ≡ (patch_of s).number → place ≡ (patch_of s).place → ((patch_of s).number ≡ 0 → ⊥)
+      → (n : ℕ) (w : Tallied) → ended (BadFile number place) 0 w ≡ run_call s input n w
+  unfolding run_call
+  run_bad p q z n w = rw (p, q, ne_eqb (patch_of s).number 0 z) refl
 
-    pub fresh_bad : (m : Machine) (mode : ℕ) → m ≡ fresh_of mode → (n : ℕ) (d : Slices) → ended (BadFile r.number r.place) 0 (lent m d) ≡ fresh_call s input n mode d
+  module _ (u : Unread) (q : Err u ≡ read_of (patch_of s)) where
+    pub run_unread : (n : ℕ) (w : Tallied) → ended (BadFile u.number u.place) 0 w ≡ run_call s input n w
+    run_unread = run_bad (bad_number s u q) (bad_place s u q) (bad_file s u q)
+
+    pub fresh_unread : (m : Machine) (mode : ℕ) → m ≡ fresh_of mode → (n : ℕ) (d : Slices) → ended (BadFile u.number u.place) 0 (lent m d) ≡ fresh_call s input n mode d
     unfolding fresh_call
-    fresh_bad m mode f n d = rw (f, number_is s r q, bad_place s r q z, ne_eqb (patch_of s).number 0 (bad_file s r q z)) refl
+    fresh_unread m mode f n d = rw (f, bad_number s u q, bad_place s u q, ne_eqb (patch_of s).number 0 (bad_file s u q)) refl

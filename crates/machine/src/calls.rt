@@ -1,5 +1,6 @@
 // A run and a step. Each reads the patch first, then tests the state, then works.
-ghost use Rattle.std.specs.Prelude.{◌≡◌, ℕ};
+ghost use Rattle.std.specs.Prelude.{◌≡◌, length, take};
+ghost use Rattle.ops.specs.Patch.{patch_of};
 ghost use Rattle.partners.specs.Read.{patch_read};
 ghost use Rattle.busy.specs.Sums.{adds_up};
 ghost use Rattle.machine_step.specs.Held.{code_in};
@@ -13,7 +14,7 @@ use machine_run::going::go;
 use machine_step::columns::Columns;
 use partners::patch::Patch;
 use partners::scan::{NOWHERE, find_partners};
-use patch_reader::reader::load;
+use patch_reader::reader::{Read, load};
 use states::formed::is_formed;
 
 impl Machine {
@@ -90,10 +91,8 @@ impl Machine {
     // The run of a patch whose ops are loaded: their partners are found first.
     pub(crate) fn run_loaded(
         self,
-        rows: &[u8],
-        counts: &[u16],
-        needs: &[u16],
-        payloads: &[u32],
+        read: &Read,
+        n: usize,
         bytes: &[u8],
         register: &mut [u64],
         tape: &mut [u64],
@@ -105,20 +104,21 @@ impl Machine {
         stand: bool,
         budget: u32,
     ) -> Ran
-        requires loaded { IsLoaded bytes.now rows.now counts.now needs.now payloads.now }
-        requires sums { stand ≡ adds_up rows.now tally.old self.total }
+        requires ops { n ≡ length (patch_of bytes.now).items }
+        requires loaded { IsLoaded bytes.now (take n read.now.rows) (take n read.now.counts) (take n read.now.needs) (take n read.now.payloads) }
+        requires sums { stand ≡ adds_up (take n read.now.rows) tally.old self.total }
         ensures { ran_to result (slices register.new tape.new table.new channel.new output.new tally.new) ≡ run_call bytes.now input.now budget (lent self (slices register.old tape.old table.old channel.old output.old tally.old)) }
     {
+        let rows = &read.rows[..n];
         let mut partners = [NOWHERE; Machine::OPS];
         let mut turns = [NOWHERE; Machine::OPS];
         let mut marks = [NOWHERE; Machine::MARKS];
         let first = find_partners(rows, &mut partners, &mut turns, &mut marks);
-        let n = rows.len();
         let code = Columns {
             rows,
-            counts,
-            needs,
-            payloads,
+            counts: &read.counts[..n],
+            needs: &read.needs[..n],
+            payloads: &read.payloads[..n],
             partners: &partners[..n],
             turns: &turns[..n],
             marks: &marks[first..],
@@ -144,32 +144,14 @@ impl Machine {
     ) -> Ran
         ensures { ran_to result (slices register.new tape.new table.new channel.new output.new tally.new) ≡ run_call bytes.now input.now budget (lent self (slices register.old tape.old table.old channel.old output.old tally.old)) }
     {
-        let mut rows = [0u8; Machine::OPS];
-        let mut counts = [0u16; Machine::OPS];
-        let mut needs = [0u16; Machine::OPS];
-        let mut payloads = [0u32; Machine::OPS];
-        let read = load(bytes, &mut rows, &mut counts, &mut needs, &mut payloads);
-        let number = read.number;
-        if number != 0 {
-            return self.refused(Answer::BadFile(number, read.place));
-        }
-        let n = read.ops;
-        let stand = adds_up(&rows[..n], tally, self.total);
+        let mut read = Read::blank();
+        let n = match load(bytes, &mut read) {
+            Ok(n) => n,
+            Err(unread) => return self.refused(Answer::BadFile(unread.number, unread.place)),
+        };
+        let stand = adds_up(&read.rows[..n], tally, self.total);
         self.run_loaded(
-            &rows[..n],
-            &counts[..n],
-            &needs[..n],
-            &payloads[..n],
-            bytes,
-            register,
-            tape,
-            table,
-            channel,
-            input,
-            output,
-            tally,
-            stand,
-            budget,
+            &read, n, bytes, register, tape, table, channel, input, output, tally, stand, budget,
         )
     }
 
@@ -213,7 +195,7 @@ impl Machine {
 
     // One step: a run of at most one. Where none was made its answer says why.
     pub fn step(
-        self,
+        mut self,
         bytes: &[u8],
         register: &mut [u64],
         tape: &mut [u64],
@@ -233,9 +215,10 @@ impl Machine {
         } else {
             Answer::Went
         };
+        self = ran.machine;
         Stepped {
             answer,
-            machine: ran.machine,
+            machine: self,
         }
     }
 }

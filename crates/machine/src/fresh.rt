@@ -1,11 +1,11 @@
 // The fresh run: it reads the patch first, then tests the call mode, the lent room and that there is a count for each op, then writes its zeros and works
 // as any run.
-ghost use Rattle.std.specs.Prelude.{◌≡◌, ℕ};
+ghost use Rattle.std.specs.Prelude.{◌≡◌};
 ghost use Rattle.machine.specs.Calls.{slices, ran_to, fresh_call};
 
 use crate::machine::{Machine, Ran};
 use answers::run::Answer;
-use patch_reader::reader::load;
+use patch_reader::reader::{Read, load};
 use states::formed::can_start;
 use states::zeros::zero;
 
@@ -25,20 +25,15 @@ impl Machine {
     ) -> Ran
         ensures { ran_to result (slices register.new tape.new table.new channel.new output.new tally.new) ≡ fresh_call bytes.now input.now budget mode (slices register.old tape.old table.old channel.old output.old tally.old) }
     {
-        let mut rows = [0u8; Machine::OPS];
-        let mut counts = [0u16; Machine::OPS];
-        let mut needs = [0u16; Machine::OPS];
-        let mut payloads = [0u32; Machine::OPS];
         let m = Machine::fresh(mode);
-        let read = load(bytes, &mut rows, &mut counts, &mut needs, &mut payloads);
-        let number = read.number;
-        if number != 0 {
-            return m.refused(Answer::BadFile(number, read.place));
-        }
+        let mut read = Read::blank();
+        let n = match load(bytes, &mut read) {
+            Ok(n) => n,
+            Err(unread) => return m.refused(Answer::BadFile(unread.number, unread.place)),
+        };
         if !can_start(mode, register, table, channel) {
             return m.refused(Answer::NotAState);
         }
-        let n = read.ops;
         if tally.len() != n {
             return m.refused(Answer::NotAState);
         }
@@ -47,20 +42,7 @@ impl Machine {
         zero(tape, cells);
         zero(tally, n);
         m.run_loaded(
-            &rows[..n],
-            &counts[..n],
-            &needs[..n],
-            &payloads[..n],
-            bytes,
-            register,
-            tape,
-            table,
-            channel,
-            input,
-            output,
-            tally,
-            true,
-            budget,
+            &read, n, bytes, register, tape, table, channel, input, output, tally, true, budget,
         )
     }
 }

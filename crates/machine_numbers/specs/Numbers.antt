@@ -1,5 +1,5 @@
 -- The machine's numbers with one of them changed, and what each family of ops may change. Assumes nothing.
-use Rattle.std.specs.Prelude.{Bool, true, List, ℕ, ◌+◌, ◌-◌, ◌*◌, ◌/◌, ◌%◌, eqb, ltb}
+use Rattle.std.specs.Prelude.{true, List, ℕ, ◌+◌, ◌-◌, ◌*◌, ◌/◌, ◌%◌, eqb, ltb}
 use Rattle.basics.specs.Pick.{pick}
 use Rattle.machine_numbers.specs.declared.numbers.Numbers.{Numbers}
 

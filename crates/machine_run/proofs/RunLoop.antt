@@ -8,8 +8,6 @@ use native.Mathlib.Omega.{arith}
 use native.Mathlib.Numerals.{add-one}
 use lib.Dec.{leb, eqb}
 use lib.ListN.{length, get_or, length-map, length-set}
-use mir.Val
-use mir.Syntax.{w8}
 use borrow.Author.Tests.{leb-false, le-leb, lt-leb, eq-eqb, ne_eqb, eqb-true, eqb-false}
 use Rattle.basics.specs.Pick.{pick}
 use Rattle.basics.proofs.Tests.{by_case, or_right}
@@ -137,10 +135,6 @@ not_halted : (p : Numbers) (n : ℕ) → over_of p n ≡ false → p.halted ≡ 
 unfolding over_of
 not_halted p n e = by_case p.halted (λ h. h ∙ (rw h at e)) (λ h. h)
 
--- the elements of a slice of bytes
-pub bytes_of : (s : List ℕ) → ((i : ℕ) → mir.Val.Fits w8 (get_or s i 0)) → Bytes s
-bytes_of s h = record { at = λ i. omega (arith, h i) }
-
 module _ (s input : List ℕ) (c : Held) (h : Fits s input c) where
   -- the model's first test is the code's
   over_is : (c.numbers.halted || leb (length (given_to s input c).ops) c.numbers.position) ≡ over_of c.numbers (length (code_of s).rows)
@@ -161,7 +155,7 @@ module _ (s input : List ℕ) (c : Held) (h : Fits s input c) where
     no_lane _ (stops n l z) o q a = absurd (eqb-false n 0 z (sym (ap (λ (d : After). d.number) q) ∙ a))
 
 -- the op at the position is one of the patch's
-pub op_here : (s input : List ℕ) (x : Code) (c : Held) → ReadyToRun s input x c → over_of c.numbers (length x.rows) ≡ false
+op_here : (s input : List ℕ) (x : Code) (c : Held) → ReadyToRun s input x c → over_of c.numbers (length x.rows) ≡ false
     → (c.numbers.position < length x.rows) × (length x.rows ≤ most_ops)
 op_here s input x c h e =
     let n : length x.rows ≡ length (patch_of s).items = ap (λ (y : Code). length y.rows) h.read ∙ many_rows s in
@@ -217,12 +211,6 @@ Running s input x budget from c left = Going (run_of left (budget - left) x inpu
 
 abbrev pub Driving : List ℕ → List ℕ → Code → ℕ → Held → Held → ℕ → Type 0
 Driving s input x budget from c left = Going (drive_of left (budget - left) x input) s input x budget from c left
-
--- at first
-pub begin : {s input : List ℕ} {x : Code} {c : Held} (budget : ℕ) → ReadyToRun s input x c → Running s input x budget c c budget
-begin budget h =
-    let z : budget - budget ≡ 0 = omega arith in
-    record { ready = h; within = omega arith; same = rw z refl }
 
 -- a comment is passed, and no step is counted
 module _ {s input : List ℕ} {x : Code} {budget : ℕ} {from c : Held} {left : ℕ} (i : Running s input x budget from c left) (run : c.numbers.halted ≡ false) where
@@ -356,9 +344,6 @@ module _ {x : Code} {input : List ℕ} {budget : ℕ} {from : Held} {first : Lis
 
       counts_refused_at : (o.number ≡ 0 → ⊥) → cs ≡ run_counts_of budget x input from first
       counts_refused_at a = sym (counts_refused x input c cs (over_before c.numbers _ run h) o q left a) ∙ at_this
-
-pub counting_at_first : {x : Code} {input : List ℕ} {budget : ℕ} {c : Held} {cs : List ℕ} → ReadyToCount x.rows cs budget → Counting x input budget c cs c cs budget
-counting_at_first h = record { each = h.each; low = h.low; same = refl }
 
 -- the measure: a comment passed leaves fewer ops ahead, and a step made fewer steps
 abbrev pub ahead : ℕ → ℕ → ℕ → ℕ

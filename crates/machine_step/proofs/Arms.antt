@@ -18,7 +18,6 @@ use Rattle.ops.specs.declared.op.Mode.{Mode}
 use Rattle.ops.specs.declared.op.Binding.{Binding}
 use Rattle.machine_numbers.specs.declared.numbers.Numbers.{Numbers}
 use Rattle.machine_numbers.specs.Numbers.{at_position, at_pointer, of_length, of_lanes, of_depth, of_saved, of_functions, of_mode, of_ring, of_taken, of_written, next, answered, left, onward, OpAnswer, OneList, one_list, steered, swapped, taped}
-use Rattle.control_ops.specs.CanSteer.{Steers, CanCall}
 use Rattle.control_ops.specs.Control.{function_of, call_of, ret_of, while_of, if_of, elses_of, ends_of, in_table, control_of}
 use Rattle.tape_ops.specs.Tape.{set_of, store_of, load_of, move_of, where_of, deref_of, refer_of, alloc_of, in_register, in_tape, in_refs, tape_of}
 use Rattle.lane_ops.specs.Lane.{swap_of, offset_of, LaneDone}

@@ -9,7 +9,7 @@ use Rattle.machine.proofs.machine.Machine.run_read.Goals as goal
 use Rattle.machine.proofs.machine.Machine.run_read.Goals.{After-allowed_steps}
 
 pub is_formed-requires : goal.is_formed-requires
-is_formed-requires c = (search rules, search rules, few_rows _ _ c.requires.read)
+is_formed-requires c = few_rows _ _ c.requires.read
 
 pub returns-then-not-is_formed : goal.returns-then-not-is_formed
 returns-then-not-is_formed c =
