@@ -3,13 +3,14 @@
 ghost use Rattle.std.specs.Prelude.{◌≡◌, ◌*◌, ◌%◌, ◌^◌, ◌<◌, ◌≤◌};
 ghost use Rattle.lanes.specs.Steps.{infinity, digits, places, steps};
 
-const LOW: u64 = 0x10_0000_0000_0000;
+// The pattern of the least float with all its digits, and how many patterns share a place.
+pub const LOW: u64 = 0x10_0000_0000_0000;
 
 // How many digits a number below LOW doubled has room for in front.
 const ROOM: u64 = 11;
 
 // The digits of a finite float, and the places that they stand above the least one.
-fn digits_of(p: u64) -> u64
+pub fn digits_of(p: u64) -> u64
     ensures { result ≡ digits p }
 {
     if p < LOW {
@@ -18,7 +19,7 @@ fn digits_of(p: u64) -> u64
     LOW + p % LOW
 }
 
-fn places_of(p: u64) -> u64
+pub fn places_of(p: u64) -> u64
     ensures { result ≡ places p }
 {
     if p < LOW {
