@@ -1,6 +1,6 @@
 // The cell ops and the lane-only ops. Each contract is over any numbers p of a machine, with those that the op is told among them. Where one lane is
 // asked for, no loop is made ready.
-ghost use Rattle.std.specs.Prelude.{◌≡◌, ◌≤◌, ◌<◌, length};
+ghost use Rattle.std.specs.Prelude.{◌≡◌, ◌+◌, ◌≤◌, ◌<◌, length};
 ghost use Rattle.basics.specs.Limits as limit;
 ghost use Rattle.lanes.specs.Lane.{cell_rule, lane_rule};
 ghost use Rattle.lanes.specs.declared.lane.CellOp.{CellOp};
@@ -24,7 +24,8 @@ use machine_numbers::numbers::{DONE, HALTED};
 // Whether n cells can be had at the pointer `at`: within the counted length l, 22, and then within the lent tape of m cells, 23.
 fn reached(n: usize, at: usize, l: usize, m: usize) -> u32
     requires { n ≤ limit.lanes }
-    ensures { result ≡ reached_of n at l m }
+    ensures value { result ≡ reached_of n at l m }
+    ensures inside { result ≡ 0 → 0 < n → at + n ≤ m }
 {
     let r = have(22, l, at, n);
     if r != DONE {

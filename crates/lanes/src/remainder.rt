@@ -37,7 +37,7 @@ fn rest_of(m: u64, k: u64, n: u64) -> u64
     let mut rest = m % n;
     let mut left = k;
     while left > 0 {
-        let some = if left < ROOM { left } else { ROOM };
+        let some = left.min(ROOM);
         rest = (rest << some) % n;
         left -= some;
     }

@@ -6,8 +6,7 @@ use Rattle.machine_numbers.specs.Numbers.{answered, left, one_list}
 use Rattle.machine_numbers.proofs.Parts.{rest_part}
 use borrow.Author.Tests.{eq-eqb, ne_eqb}
 use Rattle.lane_ops.specs.Lane.{cell_of}
-use Rattle.lane_ops.proofs.Reached.{refused, passed, inside}
-use borrow.Author.Rules.{rules}
+use Rattle.lane_ops.proofs.Reached.{refused, passed}
 use Rattle.lane_ops.proofs.lane.cell.Goals as goal
 
 pub returns-then-r-ne-DONE : goal.returns-then-r-ne-DONE
@@ -16,29 +15,13 @@ returns-then-r-ne-DONE g c =
     λ o k p.
     let a = c.args in
     let r = a.register.now in
-    rw c.if-n-eq1.true (refused _ _ _ _ c.reached-r.ensures (λ x. one_list x r) _ (one_list (answered 0 p) r) _ c.if-r-ne-DONE.true)
-
-pub offset_bounds-tape-at : goal.offset_bounds-tape-at
-unfolding cell_of left pick
-offset_bounds-tape-at g c = let h = inside _ _ _ _ c.reached-r.ensures c.if-r-ne-DONE.false refl in search rules
-
-pub slice_bounds-zip_one-count : goal.slice_bounds-zip_one-count
-unfolding cell_of left pick
-slice_bounds-zip_one-count g c = let h = inside _ _ _ _ c.reached-r.ensures c.if-r-ne-DONE.false refl in search rules
-
-pub slice_bounds-zip_one-start : goal.slice_bounds-zip_one-start
-unfolding cell_of left pick
-slice_bounds-zip_one-start g c = let h = inside _ _ _ _ c.reached-r.ensures c.if-r-ne-DONE.false refl in search rules
-
-pub zip_one-requires-clause-in_bounds_2 : goal.zip_one-requires-clause-in_bounds_2
-unfolding cell_of left pick
-zip_one-requires-clause-in_bounds_2 g c = let h = inside _ _ _ _ c.reached-r.ensures c.if-r-ne-DONE.false refl in search rules
+    rw c.if-n-eq1.true (refused _ _ _ _ c.reached-r.ensures.value (λ x. one_list x r) _ (one_list (answered 0 p) r) _ c.if-r-ne-DONE.true)
 
 pub returns-then-n-eq1 : goal.returns-then-n-eq1
 unfolding cell_of left pick
 returns-then-n-eq1 g c =
     λ o k p.
-    let w = passed _ _ _ _ c.reached-r.ensures c.if-r-ne-DONE.false refl in
+    let w = passed _ _ _ _ c.reached-r.ensures.value c.if-r-ne-DONE.false refl in
     simp (c.if-n-eq1.true, w.0, w.1, c.zip_one.ensures (cell_rule o) k, rest_part)
 
 pub returns-then-n-eq0 : goal.returns-then-n-eq0
@@ -50,28 +33,12 @@ unfolding cell_of
 returns-then-r-ne-DONE-2 g c =
     λ o k p.
     let a = c.args in
-    refused _ _ _ _ c.reached-r-2.ensures (λ x. one_list x a.register.now) _ _ _ c.if-r-ne-DONE-2.true
-
-pub offset_bounds-tape-at-2 : goal.offset_bounds-tape-at-2
-unfolding cell_of left pick
-offset_bounds-tape-at-2 g c = let h = inside _ _ _ _ c.reached-r-2.ensures c.if-r-ne-DONE-2.false (ne_eqb _ _ c.if-n-eq0.false) in search rules
-
-pub slice_bounds-zip_lanes-count : goal.slice_bounds-zip_lanes-count
-unfolding cell_of left pick
-slice_bounds-zip_lanes-count g c = let h = inside _ _ _ _ c.reached-r-2.ensures c.if-r-ne-DONE-2.false (ne_eqb _ _ c.if-n-eq0.false) in search rules
-
-pub slice_bounds-zip_lanes-start : goal.slice_bounds-zip_lanes-start
-unfolding cell_of left pick
-slice_bounds-zip_lanes-start g c = let h = inside _ _ _ _ c.reached-r-2.ensures c.if-r-ne-DONE-2.false (ne_eqb _ _ c.if-n-eq0.false) in search rules
-
-pub zip_lanes-requires-clause-n_in_bounds_2 : goal.zip_lanes-requires-clause-n_in_bounds_2
-unfolding cell_of left pick
-zip_lanes-requires-clause-n_in_bounds_2 g c = let h = inside _ _ _ _ c.reached-r-2.ensures c.if-r-ne-DONE-2.false (ne_eqb _ _ c.if-n-eq0.false) in search rules
+    refused _ _ _ _ c.reached-r-2.ensures.value (λ x. one_list x a.register.now) _ _ _ c.if-r-ne-DONE-2.true
 
 pub returns : goal.returns
 unfolding cell_of left pick
 returns g c =
     λ o k p.
     let z = ne_eqb _ _ c.if-n-eq0.false in
-    let w = passed _ _ _ _ c.reached-r-2.ensures c.if-r-ne-DONE-2.false z in
+    let w = passed _ _ _ _ c.reached-r-2.ensures.value c.if-r-ne-DONE-2.false z in
     simp (z, w.0, w.1, c.zip_lanes.ensures (cell_rule o) k, rest_part)

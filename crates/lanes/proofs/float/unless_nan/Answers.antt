@@ -1,7 +1,7 @@
 -- `lanes::float::unless_nan` meets its contract. Assumes nothing.
 use Rattle.std.proofs.Common.{◌∙◌, ap}
 use Rattle.lanes.specs.Float.{stored_of}
-use Rattle.lanes.proofs.Floats.{floats, stored_nan, some_nan}
+use Rattle.lanes.proofs.Floats.{stored_nan, some_nan}
 use Rattle.lanes.proofs.float.unless_nan.Goals as goal
 
 pub returns-then-either_nan : goal.returns-then-either_nan
