@@ -1,11 +1,9 @@
 -- What the proofs of the lane loops share: how long the result is, and one turn, for any rule. Assumes nothing.
-use mathlib.Core.Path.{◌≡◌, refl, ap}
-use mathlib.Core.List.{List, [], ◌∷◌}
-use Prim.Native.Nat.{ℕ, zero, suc, ◌+◌, ◌≤◌, ◌<◌}
+use Rattle.std.proofs.Common.{◌≡◌, refl, ap, List, [], ◌∷◌, ◌++◌, ℕ, ◌+◌, ◌≤◌, ◌<◌, length, get_or, set, take, drop, arith}
+use Prim.Native.Nat.{zero, suc}
 use native.Mathlib.Numerals.{add-one}
 use native.Mathlib.Nat.{le_of_suc-le-suc, not-suc-le-zero}
-use lib.ListN.{length, get_or, set}
-use Rattle.lane_loops.specs.Loops.{zip_to, map_to}
+use Rattle.lane_loops.specs.Loops.{zip_to, map_to, beside}
 
 pub length_zip : (f : ℕ → ℕ → ℕ) (i : ℕ) (r c : List ℕ) → length (zip_to f i r c) ≡ length r
 unfolding zip_to
@@ -52,10 +50,19 @@ pub map_first : (f : ℕ → ℕ) (r : List ℕ) (v : ℕ) → v ≡ f (get_or r
 unfolding map_to
 map_first f r v e h = map_again f 0 r r v refl e h
 
--- what is not done yet is as it was
-pub zip_ahead : (f : ℕ → ℕ → ℕ) (i : ℕ) (r c : List ℕ) → get_or (zip_to f i r c) i 0 ≡ get_or r i 0
+-- a rule over a list of the first n lanes, with the others behind them
+pub map_part : (f : ℕ → ℕ) (n i : ℕ) (r : List ℕ) → n ≤ length r → length (take n r) ≤ i → map_to f i (take n r) ++ drop n r ≡ map_to f n r
+unfolding map_to
+map_part f zero zero r h k = refl
+map_part f zero (suc i) r h k = refl
+map_part f (suc n) i [] h k = absurd (not-suc-le-zero h)
+map_part f (suc n) zero (x ∷ r) h k = absurd (not-suc-le-zero k)
+map_part f (suc n) (suc i) (x ∷ r) h k = ap (λ (l : List ℕ). f x ∷ l) (map_part f n i r (le_of_suc-le-suc h) (le_of_suc-le-suc k))
+
+-- the first n cells, with the lanes from there on behind them
+pub zip_beside : (n : ℕ) (r c : List ℕ) → n ≤ length r → n ≤ length c → take n c ++ drop n r ≡ zip_to beside n r c
 unfolding zip_to
-zip_ahead f zero r c = refl
-zip_ahead f (suc i) [] c = refl
-zip_ahead f (suc i) (x ∷ r) [] = refl
-zip_ahead f (suc i) (x ∷ r) (y ∷ c) = zip_ahead f i r c
+zip_beside zero r c h k = refl
+zip_beside (suc n) [] c h k = absurd (not-suc-le-zero h)
+zip_beside (suc n) (x ∷ r) [] h k = absurd (not-suc-le-zero k)
+zip_beside (suc n) (x ∷ r) (y ∷ c) h k = ap (λ (l : List ℕ). y ∷ l) (zip_beside n r c (le_of_suc-le-suc h) (le_of_suc-le-suc k))

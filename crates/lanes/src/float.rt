@@ -1,9 +1,9 @@
 // A lane as a float of 64 bits, by its pattern: one function for each arm of the Rust's `step`, in the order of the arms. Every NaN pattern is
-// read as the one NaN, and a NaN that an op gives is stored as one pattern. Each of + - * leaves where an operand is a NaN, which no sum needs.
-ghost use Rattle.std.specs.Prelude.{◌≡◌, ◌*◌, ◌%◌, ◌^◌, ◌||◌};
+// read as the one NaN, and a NaN that an op gives is stored as one pattern.
+ghost use Rattle.std.specs.Prelude.{◌≡◌, ◌*◌, ◌%◌, ◌^◌, ◌||◌, Float};
 ghost use Rattle.std.specs.Float.{binary64};
 ghost use Rattle.std.specs.Float.Ieee.{nan_bits};
-ghost use Rattle.lanes.specs.Float.{stored_of, float_add, float_sub, float_mul, float_div, float_rem, float_neg, float_gez, to_int, to_float};
+ghost use Rattle.lanes.specs.Float.{Gives, Strict, loaded_of, stored_of, float_add, float_sub, float_mul, float_div, float_rem, float_neg, float_gez, to_int, to_float};
 
 use crate::int::{HALF, bit_or, magnitude, with_sign};
 use crate::remainder::remainder;
@@ -62,34 +62,36 @@ pub fn to_float(a: u64) -> u64
     ensures { result ≡ to_float a }
 {
     let p = f64::to_bits(std::num::nearest_u64_to_f64(magnitude(a)));
-    std::num::wrapping_add_u64(p, a - a % HALF)
+    p.wrapping_add(a - a % HALF)
+}
+
+// An op on the floats of two patterns that gives a NaN where one of them is: it is not computed there.
+fn unless_nan<F: FnOnce(f64, f64) -> f64>(a: u64, b: u64, op: F) -> u64
+    requires { F.IsAlwaysCallable op }
+    ensures { (f : Float → Float → Float) → Gives (F.post op) f → Strict f → result ≡ stored_of (f (loaded_of a) (loaded_of b)) }
+{
+    if either_nan(a, b) {
+        return NAN;
+    }
+    as_int(op(f64::from_bits(a), f64::from_bits(b)))
 }
 
 pub fn float_add(a: u64, b: u64) -> u64
     ensures { result ≡ float_add a b }
 {
-    if either_nan(a, b) {
-        return NAN;
-    }
-    as_int(f64::from_bits(a) + f64::from_bits(b))
+    unless_nan(a, b, |x, y| x + y)
 }
 
 pub fn float_sub(a: u64, b: u64) -> u64
     ensures { result ≡ float_sub a b }
 {
-    if either_nan(a, b) {
-        return NAN;
-    }
-    as_int(f64::from_bits(a) - f64::from_bits(b))
+    unless_nan(a, b, |x, y| x - y)
 }
 
 pub fn float_mul(a: u64, b: u64) -> u64
     ensures { result ≡ float_mul a b }
 {
-    if either_nan(a, b) {
-        return NAN;
-    }
-    as_int(f64::from_bits(a) * f64::from_bits(b))
+    unless_nan(a, b, |x, y| x * y)
 }
 
 // Where an operand is a NaN it divides -0 by 0, which gives one: so no branch is taken, and a loop divides two lanes at a time.
@@ -106,7 +108,7 @@ pub fn float_div(a: u64, b: u64) -> u64
 fn doubled(a: u64) -> u64
     ensures { result ≡ 2 * (a % 2 ^ 63) }
 {
-    std::num::wrapping_add_u64(a, a)
+    a.wrapping_add(a)
 }
 
 // A float below the divisor in size, as every finite one is below infinity, is its own remainder, and nothing is computed for it. A NaN's pattern is
@@ -136,7 +138,7 @@ pub fn float_rem(a: u64, b: u64) -> u64
 pub fn float_neg(a: u64) -> u64
     ensures { result ≡ float_neg a }
 {
-    std::num::wrapping_add_u64(a, HALF)
+    a.wrapping_add(HALF)
 }
 
 // 1 where the float is at least 0, as -0.0 is, and 0 where it is not or is a NaN. No float is compared: taken from the first number a pattern up to

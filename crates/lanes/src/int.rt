@@ -20,11 +20,7 @@ pub fn magnitude(a: u64) -> u64
 pub fn with_sign(negative: bool, m: u64) -> u64
     ensures { result ≡ wrap (signed_by negative m) }
 {
-    if negative {
-        std::num::wrapping_sub_u64(0, m)
-    } else {
-        m
-    }
+    if negative { 0u64.wrapping_sub(m) } else { m }
 }
 
 // The pattern of m, with the sign's bit of a: taken from 0 that bit is no digit or all of them, and -m is m - 1 with every digit changed. So no
@@ -32,8 +28,8 @@ pub fn with_sign(negative: bool, m: u64) -> u64
 pub fn signed_like(a: u64, m: u64) -> u64
     ensures { result ≡ wrap (signed_by (not (nat_lt a (2 ^ 63))) m) }
 {
-    let s = std::num::wrapping_sub_u64(0, a / HALF);
-    std::num::wrapping_add_u64(m, s) ^ s
+    let s = 0u64.wrapping_sub(a / HALF);
+    m.wrapping_add(s) ^ s
 }
 
 // a * b, modulo 2^64, from the products of the halves.
@@ -44,15 +40,9 @@ pub fn wrapping_mul(a: u64, b: u64) -> u64
     let al = a % 0x1_0000_0000;
     let bh = b / 0x1_0000_0000;
     let bl = b % 0x1_0000_0000;
-    let cross = std::num::wrapping_add_u64(ah * bl, al * bh);
+    let cross = (ah * bl).wrapping_add(al * bh);
     let low = al * bl;
-    std::num::wrapping_add_u64(low, cross % 0x1_0000_0000 * 0x1_0000_0000)
-}
-
-pub fn int_index(a: u64, b: u64) -> u64
-    ensures { result ≡ int_add a b }
-{
-    int_add(a, b)
+    low.wrapping_add(cross % 0x1_0000_0000 * 0x1_0000_0000)
 }
 
 pub fn bit_nand(a: u64, b: u64) -> u64
@@ -110,13 +100,13 @@ pub fn int_sar(a: u64, b: u64) -> u64
 pub fn int_add(a: u64, b: u64) -> u64
     ensures { result ≡ int_add a b }
 {
-    std::num::wrapping_add_u64(a, b)
+    a.wrapping_add(b)
 }
 
 pub fn int_sub(a: u64, b: u64) -> u64
     ensures { result ≡ int_sub a b }
 {
-    std::num::wrapping_sub_u64(a, b)
+    a.wrapping_sub(b)
 }
 
 pub fn int_mul(a: u64, b: u64) -> u64
@@ -148,48 +138,41 @@ pub fn int_rem(a: u64, b: u64) -> u64
 pub fn int_neg(a: u64) -> u64
     ensures { result ≡ int_neg a }
 {
-    std::num::wrapping_sub_u64(0, a)
+    0u64.wrapping_sub(a)
 }
 
 pub fn bool_and(a: u64, b: u64) -> u64
     ensures { result ≡ bool_and a b }
 {
-    if a == 0 {
-        return 0;
-    }
-    if b == 0 { 0 } else { 1 }
+    u64::from(a != 0 && b != 0)
 }
 
 pub fn bool_or(a: u64, b: u64) -> u64
     ensures { result ≡ bool_or a b }
 {
-    if a == 0 {
-        if b == 0 { 0 } else { 1 }
-    } else {
-        1
-    }
+    u64::from(a != 0 || b != 0)
 }
 
 pub fn bool_not(a: u64) -> u64
     ensures { result ≡ bool_not a }
 {
-    if a == 0 { 1 } else { 0 }
+    u64::from(a == 0)
 }
 
 pub fn int_inc(a: u64) -> u64
     ensures { result ≡ int_inc a }
 {
-    std::num::wrapping_add_u64(a, 1)
+    a.wrapping_add(1)
 }
 
 pub fn int_dec(a: u64) -> u64
     ensures { result ≡ int_dec a }
 {
-    std::num::wrapping_sub_u64(a, 1)
+    a.wrapping_sub(1)
 }
 
 pub fn int_gez(a: u64) -> u64
     ensures { result ≡ int_gez a }
 {
-    if a < HALF { 1 } else { 0 }
+    u64::from(a < HALF)
 }

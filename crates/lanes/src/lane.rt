@@ -7,8 +7,7 @@ use crate::float::{
 };
 use crate::int::{
     bit_and, bit_nand, bit_not, bit_or, bit_xor, bool_and, bool_not, bool_or, int_add, int_dec,
-    int_div, int_gez, int_inc, int_index, int_mul, int_neg, int_rem, int_sar, int_shl, int_shr,
-    int_sub,
+    int_div, int_gez, int_inc, int_mul, int_neg, int_rem, int_sar, int_shl, int_shr, int_sub,
 };
 
 // The ops that work lane i with cell i.
@@ -52,11 +51,12 @@ pub enum LaneOp {
 }
 
 // The lane a by an op with the cell b beside it.
+#[tactic(auto, unfolding(crate::specs::Lane::cell_rule))]
 pub fn cell_rule(op: CellOp, a: u64, b: u64) -> u64
     ensures { result ≡ cell_rule op a b }
 {
     match op {
-        CellOp::Index => int_index(a, b),
+        CellOp::Index => int_add(a, b),
         CellOp::BitwiseNand => bit_nand(a, b),
         CellOp::BitwiseAnd => bit_and(a, b),
         CellOp::BitwiseOr => bit_or(a, b),
@@ -80,6 +80,7 @@ pub fn cell_rule(op: CellOp, a: u64, b: u64) -> u64
 }
 
 // The lane a by an op that looks at nothing else.
+#[tactic(auto, unfolding(crate::specs::Lane::lane_rule))]
 pub fn lane_rule(op: LaneOp, a: u64) -> u64
     ensures { result ≡ lane_rule op a }
 {

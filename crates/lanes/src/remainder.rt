@@ -3,6 +3,7 @@
 ghost use Rattle.std.specs.Prelude.{◌≡◌, ◌*◌, ◌%◌, ◌^◌, ◌<◌, ◌≤◌};
 ghost use Rattle.lanes.specs.Steps.{infinity, digits, places, steps};
 
+// The pattern of the least float with all its digits, and how many patterns share a place.
 pub const LOW: u64 = 0x10_0000_0000_0000;
 
 // How many digits a number below LOW doubled has room for in front.
@@ -36,7 +37,7 @@ fn rest_of(m: u64, k: u64, n: u64) -> u64
     let mut rest = m % n;
     let mut left = k;
     while left > 0 {
-        let some = if left < ROOM { left } else { ROOM };
+        let some = left.min(ROOM);
         rest = (rest << some) % n;
         left -= some;
     }

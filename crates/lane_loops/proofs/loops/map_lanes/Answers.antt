@@ -1,17 +1,15 @@
--- `lane_loops::loops::map_lanes` meets its contract. The invariant: i lanes are done. The measure is what is left of n. Assumes nothing.
-use mathlib.Core.Path.{◌≡◌}
-use native.Mathlib.Omega.{arith}
+-- `lane_loops::loops::map_lanes` meets its contract. Assumes nothing.
+use Rattle.std.proofs.Common.{rules, refl}
 use Rattle.lane_loops.specs.Loops.{map_to}
-use Rattle.lane_loops.proofs.LaneLoops.{map_again}
-use borrow.Author.Rules.{rules}
+use Rattle.lane_loops.proofs.LaneLoops.{map_again, map_part}
 use Rattle.lane_loops.proofs.loops.map_lanes.Goals as goal
 
-pub loop-i-init : goal.loop-i-init
+pub loop-lane-init : goal.loop-lane-init
 unfolding map_to
-loop-i-init c = search rules
+loop-lane-init g c = λ f k. refl
 
-pub loop-i-preserved : goal.loop-i-preserved
-loop-i-preserved c = (search rules, search rules, map_again _ _ _ _ _ c.loop-i.invariant.2 c.lane_rule.ensures (search rules))
+pub loop-lane-preserved : goal.loop-lane-preserved
+loop-lane-preserved g c = λ f k. map_again f _ _ _ _ (c.loop-lane.invariant f k) (k _ _ c.rule.ensures) (search rules)
 
 pub returns : goal.returns
-returns c = let e : c.loop-i.i ≡ c.args.n = omega arith in cc
+returns g c = λ f k. rw (c.loop-lane.invariant f k) (map_part f _ _ _ c.requires.n_in_bounds (search rules))

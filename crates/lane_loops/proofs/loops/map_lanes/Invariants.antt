@@ -1,14 +1,7 @@
--- `lane_loops::loops::map_lanes` meets its contract. The invariant: i lanes are done. The measure is what is left of n. Assumes nothing.
-use Prim.Native.Nat.{◌≤◌, ◌-◌}
-use mathlib.Core.Path.{◌≡◌}
-use lib.ListN.{length}
-use Rattle.lanes.specs.Lane.{lane_rule}
-use Rattle.lane_loops.specs.Loops.{map_to}
+-- `lane_loops::loops::map_lanes` meets its contract. The invariant: so many lanes are done. Assumes nothing.
+use Rattle.std.proofs.Common.{◌≡◌, ℕ}
+use Rattle.lane_loops.specs.Loops.{map_to, ComputesAlone}
 use Rattle.lane_loops.proofs.loops.map_lanes.Given as goal
 
-abbrev pub invariant-loop-i : goal.invariant-loop-i
-invariant-loop-i l =
-    (l.i ≤ l.n) × (length l.register ≡ length l.initial.register) × (l.register ≡ map_to (lane_rule l.op) l.i l.initial.register)
-
-abbrev pub decreases-loop-i : goal.decreases-loop-i
-decreases-loop-i l = l.n - l.i
+abbrev pub invariant-loop-lane : goal.invariant-loop-lane
+invariant-loop-lane g l = (f : ℕ → ℕ) → ComputesAlone (goal.F-post g l.fn.rule) f → l.lane-items ≡ map_to f l.lane-index l.initial.lane-items

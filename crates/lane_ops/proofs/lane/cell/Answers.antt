@@ -1,84 +1,44 @@
 -- `lane_ops::lane::cell` meets its contract. The part of the tape from the pointer on stands beside the lanes. Assumes nothing.
 use mathlib.Core.Path.{refl}
 use Rattle.basics.specs.Pick.{pick}
+use Rattle.lanes.specs.Lane.{cell_rule}
 use Rattle.machine_numbers.specs.Numbers.{answered, left, one_list}
 use Rattle.machine_numbers.proofs.Parts.{rest_part}
 use borrow.Author.Tests.{eq-eqb, ne_eqb}
 use Rattle.lane_ops.specs.Lane.{cell_of}
-use Rattle.lane_ops.proofs.Reached.{refused, passed, inside}
-use borrow.Author.Rules.{rules}
+use Rattle.lane_ops.proofs.Reached.{refused, passed}
 use Rattle.lane_ops.proofs.lane.cell.Goals as goal
-
-pub reached-r-requires : goal.reached-r-requires
-unfolding cell_of left pick
-reached-r-requires c = search rules
 
 pub returns-then-r-ne-DONE : goal.returns-then-r-ne-DONE
 unfolding cell_of
-returns-then-r-ne-DONE c =
-    λ p.
+returns-then-r-ne-DONE g c =
+    λ o k p.
     let a = c.args in
-    let g = a.register.now in
-    rw c.if-n-eq1.true (refused _ _ _ _ c.reached-r.ensures (λ x. one_list x g) _ (one_list (answered 0 p) g) _ c.if-r-ne-DONE.true)
-
-pub offset_bounds-tape-at : goal.offset_bounds-tape-at
-unfolding cell_of left pick
-offset_bounds-tape-at c = let h = inside _ _ _ _ c.reached-r.ensures c.if-r-ne-DONE.false refl in search rules
-
-pub slice_bounds-zip_one-count : goal.slice_bounds-zip_one-count
-unfolding cell_of left pick
-slice_bounds-zip_one-count c = let h = inside _ _ _ _ c.reached-r.ensures c.if-r-ne-DONE.false refl in search rules
-
-pub slice_bounds-zip_one-start : goal.slice_bounds-zip_one-start
-unfolding cell_of left pick
-slice_bounds-zip_one-start c = let h = inside _ _ _ _ c.reached-r.ensures c.if-r-ne-DONE.false refl in search rules
-
-pub zip_one-requires : goal.zip_one-requires
-unfolding cell_of left pick
-zip_one-requires c = let h = inside _ _ _ _ c.reached-r.ensures c.if-r-ne-DONE.false refl in search rules
+    let r = a.register.now in
+    rw c.if-n-eq1.true (refused _ _ _ _ c.reached-r.ensures.value (λ x. one_list x r) _ (one_list (answered 0 p) r) _ c.if-r-ne-DONE.true)
 
 pub returns-then-n-eq1 : goal.returns-then-n-eq1
 unfolding cell_of left pick
-returns-then-n-eq1 c =
-    λ p.
-    let w = passed _ _ _ _ c.reached-r.ensures c.if-r-ne-DONE.false refl in
-    simp (c.if-n-eq1.true, w.0, w.1, c.zip_one.ensures, rest_part)
+returns-then-n-eq1 g c =
+    λ o k p.
+    let w = passed _ _ _ _ c.reached-r.ensures.value c.if-r-ne-DONE.false refl in
+    simp (c.if-n-eq1.true, w.0, w.1, c.zip_one.ensures (cell_rule o) k, rest_part)
 
 pub returns-then-n-eq0 : goal.returns-then-n-eq0
 unfolding cell_of left pick
-returns-then-n-eq0 c = λ p. simp (eq-eqb _ _ c.if-n-eq0.true)
-
-pub reached-r-requires-2 : goal.reached-r-requires-2
-unfolding cell_of left pick
-reached-r-requires-2 c = search rules
+returns-then-n-eq0 g c = λ o k p. simp (eq-eqb _ _ c.if-n-eq0.true)
 
 pub returns-then-r-ne-DONE-2 : goal.returns-then-r-ne-DONE-2
 unfolding cell_of
-returns-then-r-ne-DONE-2 c =
-    λ p.
+returns-then-r-ne-DONE-2 g c =
+    λ o k p.
     let a = c.args in
-    refused _ _ _ _ c.reached-r-2.ensures (λ x. one_list x a.register.now) _ _ _ c.if-r-ne-DONE-2.true
-
-pub offset_bounds-tape-at-2 : goal.offset_bounds-tape-at-2
-unfolding cell_of left pick
-offset_bounds-tape-at-2 c = let h = inside _ _ _ _ c.reached-r-2.ensures c.if-r-ne-DONE-2.false (ne_eqb _ _ c.if-n-eq0.false) in search rules
-
-pub slice_bounds-zip_lanes-count : goal.slice_bounds-zip_lanes-count
-unfolding cell_of left pick
-slice_bounds-zip_lanes-count c = let h = inside _ _ _ _ c.reached-r-2.ensures c.if-r-ne-DONE-2.false (ne_eqb _ _ c.if-n-eq0.false) in search rules
-
-pub slice_bounds-zip_lanes-start : goal.slice_bounds-zip_lanes-start
-unfolding cell_of left pick
-slice_bounds-zip_lanes-start c = let h = inside _ _ _ _ c.reached-r-2.ensures c.if-r-ne-DONE-2.false (ne_eqb _ _ c.if-n-eq0.false) in search rules
-
-pub zip_lanes-requires : goal.zip_lanes-requires
-unfolding cell_of left pick
-zip_lanes-requires c = let h = inside _ _ _ _ c.reached-r-2.ensures c.if-r-ne-DONE-2.false (ne_eqb _ _ c.if-n-eq0.false) in search rules
+    refused _ _ _ _ c.reached-r-2.ensures.value (λ x. one_list x a.register.now) _ _ _ c.if-r-ne-DONE-2.true
 
 pub returns : goal.returns
 unfolding cell_of left pick
-returns c =
-    λ p.
+returns g c =
+    λ o k p.
     let z = ne_eqb _ _ c.if-n-eq0.false in
-    let w = passed _ _ _ _ c.reached-r-2.ensures c.if-r-ne-DONE-2.false z in
-    simp (z, w.0, w.1, c.zip_lanes.ensures, rest_part)
+    let w = passed _ _ _ _ c.reached-r-2.ensures.value c.if-r-ne-DONE-2.false z in
+    simp (z, w.0, w.1, c.zip_lanes.ensures (cell_rule o) k, rest_part)

@@ -2,12 +2,7 @@
 use Rattle.basics.specs.Pick.{pick}
 use Rattle.machine_numbers.specs.Numbers.{left}
 use Rattle.lane_ops.specs.Lane.{offset_of}
-use borrow.Author.Rules.{rules}
 use Rattle.lane_ops.proofs.lane.offset.Goals as goal
-
-pub offset_lanes-requires : goal.offset_lanes-requires
-unfolding offset_of left pick
-offset_lanes-requires c = search rules
 
 pub returns : goal.returns
 unfolding offset_of left pick

@@ -4,47 +4,26 @@ use Rattle.machine_numbers.specs.Numbers.{left, swapped}
 use Rattle.machine_numbers.proofs.Parts.{rest_part, copied_back}
 use borrow.Author.Tests.{eq-eqb, ne_eqb}
 use Rattle.lane_ops.specs.Lane.{swap_of}
-use Rattle.lane_ops.proofs.Reached.{refused, passed, inside}
-use borrow.Author.Rules.{rules}
+use Rattle.lane_ops.proofs.Reached.{refused, passed}
 use Rattle.lane_ops.proofs.lane.swap.Goals as goal
 
 pub returns-then-n-eq0 : goal.returns-then-n-eq0
 unfolding swap_of left pick
 returns-then-n-eq0 c = λ p. simp (eq-eqb _ _ c.if-n-eq0.true)
 
-pub reached-r-requires : goal.reached-r-requires
-unfolding swap_of left pick
-reached-r-requires c = search rules
-
 pub returns-then-r-ne-DONE : goal.returns-then-r-ne-DONE
 unfolding swap_of
 returns-then-r-ne-DONE c =
     λ p.
     let a = c.args in
-    refused _ _ _ _ c.reached-r.ensures (λ x. swapped x a.register.now a.tape.now) _ _ _ c.if-r-ne-DONE.true
-
-pub offset_bounds-tape-at : goal.offset_bounds-tape-at
-unfolding swap_of left pick
-offset_bounds-tape-at c = let h = inside _ _ _ _ c.reached-r.ensures c.if-r-ne-DONE.false (ne_eqb _ _ c.if-n-eq0.false) in search rules
-
-pub slice_bounds-swap_lanes-count : goal.slice_bounds-swap_lanes-count
-unfolding swap_of left pick
-slice_bounds-swap_lanes-count c = let h = inside _ _ _ _ c.reached-r.ensures c.if-r-ne-DONE.false (ne_eqb _ _ c.if-n-eq0.false) in search rules
-
-pub slice_bounds-swap_lanes-start : goal.slice_bounds-swap_lanes-start
-unfolding swap_of left pick
-slice_bounds-swap_lanes-start c = let h = inside _ _ _ _ c.reached-r.ensures c.if-r-ne-DONE.false (ne_eqb _ _ c.if-n-eq0.false) in search rules
-
-pub swap_lanes-requires : goal.swap_lanes-requires
-unfolding swap_of left pick
-swap_lanes-requires c = let h = inside _ _ _ _ c.reached-r.ensures c.if-r-ne-DONE.false (ne_eqb _ _ c.if-n-eq0.false) in search rules
+    refused _ _ _ _ c.reached-r.ensures.value (λ x. swapped x a.register.now a.tape.now) _ _ _ c.if-r-ne-DONE.true
 
 pub returns : goal.returns
 unfolding swap_of left pick
 returns c =
     λ p.
     let z = ne_eqb _ _ c.if-n-eq0.false in
-    let w = passed _ _ _ _ c.reached-r.ensures c.if-r-ne-DONE.false z in
+    let w = passed _ _ _ _ c.reached-r.ensures.value c.if-r-ne-DONE.false z in
     let a = c.args in
     simp (
       z,

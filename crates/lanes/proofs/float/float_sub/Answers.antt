@@ -1,15 +1,8 @@
 -- `lanes::float::float_sub` meets its contract. Assumes nothing.
-use Rattle.lanes.proofs.Floats.{floats}
+use borrow.Author.Rules.{rules}
+use lib.Ieee.{binary64, sub}
+use Rattle.lanes.proofs.Floats.{sub_strict}
 use Rattle.lanes.proofs.float.float_sub.Goals as goal
 
-pub returns-then-either_nan : goal.returns-then-either_nan
-returns-then-either_nan c = search floats
-
-pub float_from_bits-a : goal.float_from_bits-a
-float_from_bits-a c = search floats
-
-pub float_from_bits-b : goal.float_from_bits-b
-float_from_bits-b c = search floats
-
 pub returns : goal.returns
-returns c = search floats
+returns c = c.unless_nan.ensures (sub binary64) (λ x y r p. search rules) sub_strict

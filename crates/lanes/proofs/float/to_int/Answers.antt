@@ -5,7 +5,6 @@ use lib.Ieee.Bits.{nan_bits_is}
 use Rattle.lanes.specs.Int.{wrap, signed_by}
 use Rattle.lanes.specs.Float.{loaded_of, to_int}
 use Rattle.lanes.proofs.Floats.{untrue, nan_loaded, magnitude_unsigned, magnitude_nan, signed_is, above, wider, within, beyond}
-use borrow.Author.Rules.{rules}
 use Rattle.lanes.proofs.float.to_int.Goals as goal
 
 not-above : (x : Float) → lt x (fin false 1 (pos 63)) ≡ true → T (lt x (fin false 1 (pos 64)))
@@ -47,10 +46,6 @@ end_of s a t p q h l e =
 
 ruleset laws = (of_nan, no_nan, not-below, not-above, whole)
 
-pub nan_bits-requires : goal.nan_bits-requires
-unfolding of_bits
-nan_bits-requires c = search rules
-
 pub returns-then-nan_bits : goal.returns-then-nan_bits
 unfolding of_bits
 returns-then-nan_bits c = search laws
@@ -62,10 +57,6 @@ float_from_bits-x c = search laws
 pub truncating_f64_to_u64-requires : goal.truncating_f64_to_u64-requires
 unfolding of_bits
 truncating_f64_to_u64-requires c = search laws
-
-pub with_sign-requires : goal.with_sign-requires
-unfolding of_bits
-with_sign-requires c = search rules
 
 pub returns-then-x : goal.returns-then-x
 unfolding of_bits
