@@ -11,7 +11,7 @@ ghost use Rattle.std.specs.Prelude.{◌≡◌, ◌+◌, ◌<◌, ◌≤◌, leng
 fn size(low: u8, high: u8) -> usize
     ensures { result < 65536 }
 {
-    basics::wide::wide_byte(low) + 256 * basics::wide::wide_byte(high)
+    usize::from(u16::from_le_bytes([low, high]))
 }
 
 // Reads n bytes to the place `at`, and answers the place after them.
@@ -33,12 +33,10 @@ fn again(file: &mut [u8], at: usize, back: usize, n: usize) -> usize
         return at;
     }
     let to = at + n;
-    let mut i = at;
-    while i < to {
+    for i in at..to {
         file[i] = file[i - back];
-        i += 1;
     }
-    i
+    to
 }
 
 // Prints the answer of the file of the first n bytes.
@@ -54,10 +52,11 @@ fn show(file: &[u8], n: usize)
     io::write_all(1, b"\n");
 }
 
-// Replays one file of the list, and answers whether there was one. Three lengths make at most 196,605 bytes.
-fn replay(file: &mut [u8]) -> bool
-    requires { length file.old ≡ 196608 }
-{
+// Room for a file of the list, of which three lengths make at most 196,605 bytes.
+const ROOM: usize = 196608;
+
+// Replays one file of the list, and answers whether there was one.
+fn replay(file: &mut [u8; ROOM]) -> bool {
     let mut head = [0u8; 8];
     if io::read_full(0, &mut head) < 8 {
         return false;
@@ -69,11 +68,12 @@ fn replay(file: &mut [u8]) -> bool
     true
 }
 
-// A proved loop has to end, and nothing says that the list does: so the turns are counted down.
+// A proved loop has to end, and nothing says that the list does: so there is a bound on the turns.
 fn main() {
-    let mut file = [0u8; 196608];
-    let mut turns: u32 = 100000;
-    while turns > 0 && replay(&mut file) {
-        turns -= 1;
+    let mut file = [0u8; ROOM];
+    for _ in 0..100000 {
+        if !replay(&mut file) {
+            return;
+        }
     }
 }

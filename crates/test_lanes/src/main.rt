@@ -55,29 +55,18 @@ fn row(kind: u64, a: u64, cells: &[u64]) {
     io::print_decimal(1, kind);
     show(a);
     io::write_all(1, b":");
-    let mut i = 0;
-    while i < cells.len() {
-        show(op(kind, a, cells[i]));
-        i += 1;
+    for &cell in cells {
+        show(op(kind, a, cell));
     }
     io::write_all(1, b"\n");
 }
 
-// A line for each lane.
-fn rows(kind: u64, lanes: &[u64], cells: &[u64]) {
-    let mut i = 0;
-    while i < lanes.len() {
-        row(kind, lanes[i], cells);
-        i += 1;
-    }
-}
-
-// The lines of each op.
+// A line for each lane, of each op.
 fn each(kinds: &[u64], lanes: &[u64], cells: &[u64]) {
-    let mut i = 0;
-    while i < kinds.len() {
-        rows(kinds[i], lanes, cells);
-        i += 1;
+    for &kind in kinds {
+        for &a in lanes {
+            row(kind, a, cells);
+        }
     }
 }
 
