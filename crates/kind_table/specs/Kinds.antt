@@ -1,111 +1,129 @@
 -- "A fixed table gives each kind its payload and lane need": the 62 kinds, by row, with the lanes known after an op of the kind, and its
 -- family. Assumes nothing.
-use Rattle.std.specs.Prelude.{ℕ, ◌+◌, ◌-◌, cond, List, [], ◌∷◌, get_or, ltb, eqb}
-use Rattle.kind_table.specs.Columns.{empty, text, values, lane_count, amount, amount_and_lanes, mode, left_out, binding, no_lane, one_lane, own_lanes, one_in_check, as_before, own_count, one_known, tape_family, control_family, cell_family, lane_family, device_family, offset_family, swap_family}
+use Rattle.std.specs.Prelude.{ℕ, ◌+◌, ◌-◌, Bool, true, false, cond, List, [], ◌∷◌, get_or, ltb}
+use Rattle.kind_table.specs.Columns.{tape_family, control_family, cell_family, lane_family, device_family, offset_family, swap_family}
 use Rattle.kind_table.specs.declared.kinds.Kind.{Kind}
+use Rattle.kind_table.specs.declared.shape.Shape.{Shape}
+use Rattle.kind_table.specs.declared.shape.Shape.TheVariants.{Empty, Text, Values, LaneCount, Amount, AmountAndLanes, Mode, LeftOut, Binding}
+use Rattle.kind_table.specs.declared.need.Need.{Need}
+use Rattle.kind_table.specs.declared.need.Need.TheVariants.{NoLane, OneLane, OwnLanes, OneInCheck}
+use Rattle.kind_table.specs.declared.known.Known.{Known}
+use Rattle.kind_table.specs.declared.known.Known.TheVariants.{AsBefore, OwnCount, OneKnown}
 
-abbrev pub kind : ℕ → ℕ → ℕ → Kind
-kind s n a = (s, n, a)
+abbrev pub kind : Shape → Need → Known → Kind
+kind s n a = record { shape = s; need = n; known = a }
 
-abbrev pub shape : Kind → ℕ
-shape k = k.0
+abbrev pub shape : Kind → Shape
+shape k = k.shape
 
-abbrev pub need : Kind → ℕ
-need k = k.1
+-- the kind is left out
+abbrev pub left_out : Shape → Bool
+left_out Empty = false
+left_out Text = false
+left_out Values = false
+left_out LaneCount = false
+left_out Amount = false
+left_out AmountAndLanes = false
+left_out Mode = false
+left_out LeftOut = true
+left_out Binding = false
 
-abbrev pub after : Kind → ℕ
-after k = k.2
+abbrev pub need : Kind → Need
+need k = k.need
+
+abbrev pub after : Kind → Known
+after k = k.known
 
 abbrev pub kinds : List Kind
 kinds =
     -- Comment
-    kind text no_lane as_before ∷
+    kind Text NoLane AsBefore ∷
     -- Set
-    kind values no_lane own_count ∷
+    kind Values NoLane OwnCount ∷
     -- Function, Call, Return, While, If, Else, End
-    kind empty one_in_check one_known ∷
-    kind empty one_lane one_known ∷
-    kind empty one_in_check one_known ∷
-    kind empty one_lane one_known ∷
-    kind empty one_lane one_known ∷
-    kind empty one_in_check one_known ∷
-    kind empty one_lane one_known ∷
+    kind Empty OneInCheck OneKnown ∷
+    kind Empty OneLane OneKnown ∷
+    kind Empty OneInCheck OneKnown ∷
+    kind Empty OneLane OneKnown ∷
+    kind Empty OneLane OneKnown ∷
+    kind Empty OneInCheck OneKnown ∷
+    kind Empty OneLane OneKnown ∷
     -- Store, Load
-    kind lane_count own_lanes as_before ∷
-    kind lane_count no_lane own_count ∷
+    kind LaneCount OwnLanes AsBefore ∷
+    kind LaneCount NoLane OwnCount ∷
     -- Move
-    kind amount no_lane as_before ∷
+    kind Amount NoLane AsBefore ∷
     -- Where, Deref, Refer
-    kind empty one_lane as_before ∷
-    kind empty no_lane as_before ∷
-    kind empty no_lane as_before ∷
+    kind Empty OneLane AsBefore ∷
+    kind Empty NoLane AsBefore ∷
+    kind Empty NoLane AsBefore ∷
     -- Index
-    kind lane_count own_lanes as_before ∷
+    kind LaneCount OwnLanes AsBefore ∷
     -- Offset
-    kind amount_and_lanes own_lanes as_before ∷
+    kind AmountAndLanes OwnLanes AsBefore ∷
     -- BitwiseNand, BitwiseAnd, BitwiseOr, BitwiseXor, BitwiseNot, LeftShift, LogicalRightShift, ArithmeticRightShift
-    kind lane_count own_lanes as_before ∷
-    kind lane_count own_lanes as_before ∷
-    kind lane_count own_lanes as_before ∷
-    kind lane_count own_lanes as_before ∷
-    kind lane_count own_lanes as_before ∷
-    kind lane_count own_lanes as_before ∷
-    kind lane_count own_lanes as_before ∷
-    kind lane_count own_lanes as_before ∷
+    kind LaneCount OwnLanes AsBefore ∷
+    kind LaneCount OwnLanes AsBefore ∷
+    kind LaneCount OwnLanes AsBefore ∷
+    kind LaneCount OwnLanes AsBefore ∷
+    kind LaneCount OwnLanes AsBefore ∷
+    kind LaneCount OwnLanes AsBefore ∷
+    kind LaneCount OwnLanes AsBefore ∷
+    kind LaneCount OwnLanes AsBefore ∷
     -- And, Or, Not
-    kind lane_count own_lanes as_before ∷
-    kind lane_count own_lanes as_before ∷
-    kind lane_count own_lanes as_before ∷
+    kind LaneCount OwnLanes AsBefore ∷
+    kind LaneCount OwnLanes AsBefore ∷
+    kind LaneCount OwnLanes AsBefore ∷
     -- Add, Sub, Mul, Div, Rem
-    kind lane_count own_lanes as_before ∷
-    kind lane_count own_lanes as_before ∷
-    kind lane_count own_lanes as_before ∷
-    kind lane_count own_lanes as_before ∷
-    kind lane_count own_lanes as_before ∷
+    kind LaneCount OwnLanes AsBefore ∷
+    kind LaneCount OwnLanes AsBefore ∷
+    kind LaneCount OwnLanes AsBefore ∷
+    kind LaneCount OwnLanes AsBefore ∷
+    kind LaneCount OwnLanes AsBefore ∷
     -- Neg, Inc, Dec, Swap, IsNonNegative
-    kind lane_count own_lanes as_before ∷
-    kind lane_count own_lanes as_before ∷
-    kind lane_count own_lanes as_before ∷
-    kind lane_count own_lanes as_before ∷
-    kind lane_count own_lanes as_before ∷
+    kind LaneCount OwnLanes AsBefore ∷
+    kind LaneCount OwnLanes AsBefore ∷
+    kind LaneCount OwnLanes AsBefore ∷
+    kind LaneCount OwnLanes AsBefore ∷
+    kind LaneCount OwnLanes AsBefore ∷
     -- Get, Put
-    kind mode one_lane as_before ∷
-    kind mode one_lane as_before ∷
+    kind Mode OneLane AsBefore ∷
+    kind Mode OneLane AsBefore ∷
     -- standard Set
-    kind values no_lane own_count ∷
+    kind Values NoLane OwnCount ∷
     -- Alloc, Free
-    kind empty one_lane as_before ∷
-    kind empty no_lane as_before ∷
+    kind Empty OneLane AsBefore ∷
+    kind Empty NoLane AsBefore ∷
     -- ToInt, ToFloat
-    kind lane_count own_lanes as_before ∷
-    kind lane_count own_lanes as_before ∷
+    kind LaneCount OwnLanes AsBefore ∷
+    kind LaneCount OwnLanes AsBefore ∷
     -- FloatAdd, FloatSub, FloatMul, FloatDiv, FloatRem
-    kind lane_count own_lanes as_before ∷
-    kind lane_count own_lanes as_before ∷
-    kind lane_count own_lanes as_before ∷
-    kind lane_count own_lanes as_before ∷
-    kind lane_count own_lanes as_before ∷
+    kind LaneCount OwnLanes AsBefore ∷
+    kind LaneCount OwnLanes AsBefore ∷
+    kind LaneCount OwnLanes AsBefore ∷
+    kind LaneCount OwnLanes AsBefore ∷
+    kind LaneCount OwnLanes AsBefore ∷
     -- FloatNeg, FloatIsNonNegative
-    kind lane_count own_lanes as_before ∷
-    kind lane_count own_lanes as_before ∷
+    kind LaneCount OwnLanes AsBefore ∷
+    kind LaneCount OwnLanes AsBefore ∷
     -- Sin, Cos, Tan, ASin, ACos, ATan, Pow: left out
-    kind left_out no_lane as_before ∷
-    kind left_out no_lane as_before ∷
-    kind left_out no_lane as_before ∷
-    kind left_out no_lane as_before ∷
-    kind left_out no_lane as_before ∷
-    kind left_out no_lane as_before ∷
-    kind left_out no_lane as_before ∷
+    kind LeftOut NoLane AsBefore ∷
+    kind LeftOut NoLane AsBefore ∷
+    kind LeftOut NoLane AsBefore ∷
+    kind LeftOut NoLane AsBefore ∷
+    kind LeftOut NoLane AsBefore ∷
+    kind LeftOut NoLane AsBefore ∷
+    kind LeftOut NoLane AsBefore ∷
     -- Peek, Poke
-    kind empty one_lane as_before ∷
-    kind empty one_lane as_before ∷
+    kind Empty OneLane AsBefore ∷
+    kind Empty OneLane AsBefore ∷
     -- standard Call: 02, ask 9: "The check needs no lane for it"
-    kind binding no_lane as_before ∷
+    kind Binding NoLane AsBefore ∷
     []
 
 -- row k; blank beyond the last
 unfoldable pub kind_at : ℕ → Kind
-kind_at k = get_or kinds k (kind empty no_lane as_before)
+kind_at k = get_or kinds k (kind Empty NoLane AsBefore)
 
 -- the number of a standard kind, by its row
 abbrev pub standard : ℕ → ℕ
@@ -116,8 +134,14 @@ unfoldable pub index_of : ℕ → ℕ
 index_of k = cond (ltb k 40) k (cond (ltb k 256) 62 (cond (ltb k 278) (k - 216) 62))
 
 -- the lanes that a run of an op of row k asks for, where the op counts n
+abbrev pub lanes_asked : Need → ℕ → ℕ
+lanes_asked NoLane n = 0
+lanes_asked OneLane n = 1
+lanes_asked OwnLanes n = n
+lanes_asked OneInCheck n = 0
+
 unfoldable pub run_need : ℕ → ℕ → ℕ
-run_need k n = cond (eqb (need (kind_at k)) one_lane) 1 (cond (eqb (need (kind_at k)) own_lanes) n 0)
+run_need k n = lanes_asked (need (kind_at k)) n
 
 -- the family of each row
 abbrev pub families : List ℕ

@@ -2,7 +2,9 @@
 ghost use Rattle.std.specs.Prelude.{◌≡◌, ◌≤◌};
 ghost use Rattle.kind_table.specs.Kinds.{kind_at, index_of, run_need};
 
-use crate::{known, need, row, shape};
+use crate::known::Known;
+use crate::need::Need;
+use crate::shape::Shape;
 
 // How many rows there are, and how many of them are core kinds; the number of the first standard kind and the one after the last; and by how much
 // a standard kind's number is above its row.
@@ -17,87 +19,101 @@ const BEYOND: usize = STANDARD + COUNT - CORE;
 const ABOVE: usize = STANDARD - CORE;
 
 // A kind's payload, the lanes that it needs, and the lanes known after it.
-#[derive(Clone, Copy)]
-pub struct Kind(pub u8, pub u8, pub u8);
+#[derive(Clone, Copy, PartialEq, Eq, Debug)]
+pub struct Kind {
+    pub shape: Shape,
+    pub need: Need,
+    pub known: Known,
+}
 
-// A row is one byte, since a constant array is laid down anew at each reading: the payload times 16, the lanes needed times 4, the lanes known after.
-const KINDS: [u8; COUNT] = [
-    shape::TEXT * 16 + need::NONE * 4 + known::KEEP, // Comment
-    shape::VALUES * 16 + need::NONE * 4 + known::OWN, // Set
-    shape::EMPTY * 16 + need::CHECKED * 4 + known::LONE, // Function
-    shape::EMPTY * 16 + need::ONE * 4 + known::LONE, // Call
-    shape::EMPTY * 16 + need::CHECKED * 4 + known::LONE, // Return
-    shape::EMPTY * 16 + need::ONE * 4 + known::LONE, // While
-    shape::EMPTY * 16 + need::ONE * 4 + known::LONE, // If
-    shape::EMPTY * 16 + need::CHECKED * 4 + known::LONE, // Else
-    shape::EMPTY * 16 + need::ONE * 4 + known::LONE, // End
-    shape::LANES * 16 + need::ALL * 4 + known::KEEP, // Store
-    shape::LANES * 16 + need::NONE * 4 + known::OWN, // Load
-    shape::MOVE * 16 + need::NONE * 4 + known::KEEP, // Move
-    shape::EMPTY * 16 + need::ONE * 4 + known::KEEP, // Where
-    shape::EMPTY * 16 + need::NONE * 4 + known::KEEP, // Deref
-    shape::EMPTY * 16 + need::NONE * 4 + known::KEEP, // Refer
-    shape::LANES * 16 + need::ALL * 4 + known::KEEP, // Index
-    shape::OFFSET * 16 + need::ALL * 4 + known::KEEP, // Offset
-    shape::LANES * 16 + need::ALL * 4 + known::KEEP, // BitwiseNand
-    shape::LANES * 16 + need::ALL * 4 + known::KEEP, // BitwiseAnd
-    shape::LANES * 16 + need::ALL * 4 + known::KEEP, // BitwiseOr
-    shape::LANES * 16 + need::ALL * 4 + known::KEEP, // BitwiseXor
-    shape::LANES * 16 + need::ALL * 4 + known::KEEP, // BitwiseNot
-    shape::LANES * 16 + need::ALL * 4 + known::KEEP, // LeftShift
-    shape::LANES * 16 + need::ALL * 4 + known::KEEP, // LogicalRightShift
-    shape::LANES * 16 + need::ALL * 4 + known::KEEP, // ArithmeticRightShift
-    shape::LANES * 16 + need::ALL * 4 + known::KEEP, // And
-    shape::LANES * 16 + need::ALL * 4 + known::KEEP, // Or
-    shape::LANES * 16 + need::ALL * 4 + known::KEEP, // Not
-    shape::LANES * 16 + need::ALL * 4 + known::KEEP, // Add
-    shape::LANES * 16 + need::ALL * 4 + known::KEEP, // Sub
-    shape::LANES * 16 + need::ALL * 4 + known::KEEP, // Mul
-    shape::LANES * 16 + need::ALL * 4 + known::KEEP, // Div
-    shape::LANES * 16 + need::ALL * 4 + known::KEEP, // Rem
-    shape::LANES * 16 + need::ALL * 4 + known::KEEP, // Neg
-    shape::LANES * 16 + need::ALL * 4 + known::KEEP, // Inc
-    shape::LANES * 16 + need::ALL * 4 + known::KEEP, // Dec
-    shape::LANES * 16 + need::ALL * 4 + known::KEEP, // Swap
-    shape::LANES * 16 + need::ALL * 4 + known::KEEP, // IsNonNegative
-    shape::MODE * 16 + need::ONE * 4 + known::KEEP, // Get
-    shape::MODE * 16 + need::ONE * 4 + known::KEEP, // Put
-    shape::VALUES * 16 + need::NONE * 4 + known::OWN, // standard Set
-    shape::EMPTY * 16 + need::ONE * 4 + known::KEEP, // Alloc
-    shape::EMPTY * 16 + need::NONE * 4 + known::KEEP, // Free
-    shape::LANES * 16 + need::ALL * 4 + known::KEEP, // ToInt
-    shape::LANES * 16 + need::ALL * 4 + known::KEEP, // ToFloat
-    shape::LANES * 16 + need::ALL * 4 + known::KEEP, // FloatAdd
-    shape::LANES * 16 + need::ALL * 4 + known::KEEP, // FloatSub
-    shape::LANES * 16 + need::ALL * 4 + known::KEEP, // FloatMul
-    shape::LANES * 16 + need::ALL * 4 + known::KEEP, // FloatDiv
-    shape::LANES * 16 + need::ALL * 4 + known::KEEP, // FloatRem
-    shape::LANES * 16 + need::ALL * 4 + known::KEEP, // FloatNeg
-    shape::LANES * 16 + need::ALL * 4 + known::KEEP, // FloatIsNonNegative
-    shape::LEFT_OUT * 16 + need::NONE * 4 + known::KEEP, // Sin
-    shape::LEFT_OUT * 16 + need::NONE * 4 + known::KEEP, // Cos
-    shape::LEFT_OUT * 16 + need::NONE * 4 + known::KEEP, // Tan
-    shape::LEFT_OUT * 16 + need::NONE * 4 + known::KEEP, // ASin
-    shape::LEFT_OUT * 16 + need::NONE * 4 + known::KEEP, // ACos
-    shape::LEFT_OUT * 16 + need::NONE * 4 + known::KEEP, // ATan
-    shape::LEFT_OUT * 16 + need::NONE * 4 + known::KEEP, // Pow
-    shape::EMPTY * 16 + need::ONE * 4 + known::KEEP, // Peek
-    shape::EMPTY * 16 + need::ONE * 4 + known::KEEP, // Poke
-    shape::BINDING * 16 + need::NONE * 4 + known::KEEP, // standard Call
+// A row of the table, by the names of its columns.
+macro_rules! kind {
+    ($shape:ident, $need:ident, $known:ident) => {
+        Kind {
+            shape: Shape::$shape,
+            need: Need::$need,
+            known: Known::$known,
+        }
+    };
+}
+
+const BLANK: Kind = kind!(Empty, NoLane, AsBefore);
+
+static KINDS: [Kind; COUNT] = [
+    kind!(Text, NoLane, AsBefore), // Comment
+    kind!(Values, NoLane, OwnCount), // Set
+    kind!(Empty, OneInCheck, OneKnown), // Function
+    kind!(Empty, OneLane, OneKnown), // Call
+    kind!(Empty, OneInCheck, OneKnown), // Return
+    kind!(Empty, OneLane, OneKnown), // While
+    kind!(Empty, OneLane, OneKnown), // If
+    kind!(Empty, OneInCheck, OneKnown), // Else
+    kind!(Empty, OneLane, OneKnown), // End
+    kind!(LaneCount, OwnLanes, AsBefore), // Store
+    kind!(LaneCount, NoLane, OwnCount), // Load
+    kind!(Amount, NoLane, AsBefore), // Move
+    kind!(Empty, OneLane, AsBefore), // Where
+    kind!(Empty, NoLane, AsBefore), // Deref
+    kind!(Empty, NoLane, AsBefore), // Refer
+    kind!(LaneCount, OwnLanes, AsBefore), // Index
+    kind!(AmountAndLanes, OwnLanes, AsBefore), // Offset
+    kind!(LaneCount, OwnLanes, AsBefore), // BitwiseNand
+    kind!(LaneCount, OwnLanes, AsBefore), // BitwiseAnd
+    kind!(LaneCount, OwnLanes, AsBefore), // BitwiseOr
+    kind!(LaneCount, OwnLanes, AsBefore), // BitwiseXor
+    kind!(LaneCount, OwnLanes, AsBefore), // BitwiseNot
+    kind!(LaneCount, OwnLanes, AsBefore), // LeftShift
+    kind!(LaneCount, OwnLanes, AsBefore), // LogicalRightShift
+    kind!(LaneCount, OwnLanes, AsBefore), // ArithmeticRightShift
+    kind!(LaneCount, OwnLanes, AsBefore), // And
+    kind!(LaneCount, OwnLanes, AsBefore), // Or
+    kind!(LaneCount, OwnLanes, AsBefore), // Not
+    kind!(LaneCount, OwnLanes, AsBefore), // Add
+    kind!(LaneCount, OwnLanes, AsBefore), // Sub
+    kind!(LaneCount, OwnLanes, AsBefore), // Mul
+    kind!(LaneCount, OwnLanes, AsBefore), // Div
+    kind!(LaneCount, OwnLanes, AsBefore), // Rem
+    kind!(LaneCount, OwnLanes, AsBefore), // Neg
+    kind!(LaneCount, OwnLanes, AsBefore), // Inc
+    kind!(LaneCount, OwnLanes, AsBefore), // Dec
+    kind!(LaneCount, OwnLanes, AsBefore), // Swap
+    kind!(LaneCount, OwnLanes, AsBefore), // IsNonNegative
+    kind!(Mode, OneLane, AsBefore), // Get
+    kind!(Mode, OneLane, AsBefore), // Put
+    kind!(Values, NoLane, OwnCount), // standard Set
+    kind!(Empty, OneLane, AsBefore), // Alloc
+    kind!(Empty, NoLane, AsBefore), // Free
+    kind!(LaneCount, OwnLanes, AsBefore), // ToInt
+    kind!(LaneCount, OwnLanes, AsBefore), // ToFloat
+    kind!(LaneCount, OwnLanes, AsBefore), // FloatAdd
+    kind!(LaneCount, OwnLanes, AsBefore), // FloatSub
+    kind!(LaneCount, OwnLanes, AsBefore), // FloatMul
+    kind!(LaneCount, OwnLanes, AsBefore), // FloatDiv
+    kind!(LaneCount, OwnLanes, AsBefore), // FloatRem
+    kind!(LaneCount, OwnLanes, AsBefore), // FloatNeg
+    kind!(LaneCount, OwnLanes, AsBefore), // FloatIsNonNegative
+    kind!(LeftOut, NoLane, AsBefore), // Sin
+    kind!(LeftOut, NoLane, AsBefore), // Cos
+    kind!(LeftOut, NoLane, AsBefore), // Tan
+    kind!(LeftOut, NoLane, AsBefore), // ASin
+    kind!(LeftOut, NoLane, AsBefore), // ACos
+    kind!(LeftOut, NoLane, AsBefore), // ATan
+    kind!(LeftOut, NoLane, AsBefore), // Pow
+    kind!(Empty, OneLane, AsBefore), // Peek
+    kind!(Empty, OneLane, AsBefore), // Poke
+    kind!(Binding, NoLane, AsBefore), // standard Call
 ];
 
-// The row k of the table, taken apart; blank beyond the last.
+// The row k of the table; blank beyond the last.
+#[tactic(auto, unfolding(crate::specs::Kinds::kind_at))]
 pub fn kind_at(k: usize) -> Kind
     ensures { result ≡ kind_at k }
 {
-    if COUNT <= k {
-        return Kind(shape::EMPTY, need::NONE, known::KEEP);
-    }
-    let c = KINDS[k];
-    Kind(c / 16, c / 4 % 4, c % 4)
+    KINDS.get(k).copied().unwrap_or(BLANK)
 }
 
 // The row of a kind's number; the row after the last where no kind has it.
+#[tactic(auto, unfolding(crate::specs::Kinds::index_of))]
 pub fn index_of(number: usize) -> usize
     ensures { (result ≡ index_of number) × (result ≤ 62) }
 {
@@ -114,14 +130,13 @@ pub fn index_of(number: usize) -> usize
 }
 
 // The lanes that a run of an op of row k with n lanes asks for.
+#[tactic(auto, unfolding(crate::specs::Kinds::run_need))]
 pub fn run_need(k: usize, n: usize) -> usize
     ensures { result ≡ run_need k n }
 {
-    let kind = kind_at(k);
-    let asked = kind.1;
-    match asked {
-        need::ONE => 1,
-        need::ALL => n,
-        _ => 0,
+    match kind_at(k).need {
+        Need::OneLane => 1,
+        Need::OwnLanes => n,
+        Need::NoLane | Need::OneInCheck => 0,
     }
 }

@@ -5,12 +5,11 @@ use Prim.Native.Nat.{ℕ, ◌+◌, ◌<◌, ◌≤◌}
 use native.Mathlib.Omega.{arith}
 use borrow.Author.Tests.{lt-ltb, le-ltb}
 use lib.ListN.{length}
-use Rattle.ops.specs.Record.{record_at, record_from}
+use Rattle.ops.specs.Record.{bad, record_at, record_from}
 use Rattle.ops.specs.declared.refusals.Refusal.TheVariants.{CutShort, FileTooLong}
-use Rattle.ops.specs.declared.records.Record.TheVariants.{Bad}
 
 module _ (s : List ℕ) (p : ℕ) where
-  pub from_long : 65536 < length s → record_from s p ≡ Bad FileTooLong 0
+  pub from_long : 65536 < length s → record_from s p ≡ bad FileTooLong 0
   unfolding record_from
   from_long h = simp (lt-ltb _ _ h)
 
@@ -20,6 +19,6 @@ module _ (s : List ℕ) (p : ℕ) where
   from_short h = simp (le-ltb _ _ h)
 
   -- beyond the bytes no record begins
-  pub at_beyond : length s < p → record_at s p ≡ Bad CutShort p
+  pub at_beyond : length s < p → record_at s p ≡ bad CutShort p
   unfolding record_at
   at_beyond h = let q : length s < p + 4 = omega arith in simp (lt-ltb _ _ q)

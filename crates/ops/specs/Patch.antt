@@ -1,5 +1,5 @@
 -- What a patch file holds: its ops by row and place, and the number and place of its first refusal. Assumes nothing.
-use Rattle.std.specs.Prelude.{ℕ, zero, suc, ◌+◌, cond, List, [], ◌∷◌, length, ltb, eqb}
+use Rattle.std.specs.Prelude.{ℕ, zero, suc, ◌+◌, cond, List, [], ◌∷◌, length, ltb, eqb, Result, Ok, Err}
 use Rattle.basics.specs.Limits.{most_bytes, most_ops, most_marks}
 use Rattle.kind_table.specs.Rows as row
 use Rattle.kind_table.specs.Kinds.{run_need}
@@ -7,8 +7,8 @@ use Rattle.ops.specs.Refusals.{number_of}
 use Rattle.ops.specs.Record.{record_at}
 use Rattle.ops.specs.declared.refusals.Refusal.{Refusal}
 use Rattle.ops.specs.declared.refusals.Refusal.TheVariants.{TooManyOps, TooManyMarks, FileTooLong}
+use Rattle.ops.specs.declared.refusals.Fault.{Fault}
 use Rattle.ops.specs.declared.records.Record.{Record}
-use Rattle.ops.specs.declared.records.Record.TheVariants.{Whole, Bad}
 
 -- an op as it is read: the row of its kind, what its payload counts, and its payload's first byte
 pub record Item : Type 0 where
@@ -52,14 +52,15 @@ unfoldable pub mark_of : ℕ → ℕ
 mark_of k = cond (eqb k row.function) 1 0
 
 -- the record at p after m marks, and what follows it: "256 Function marks"
-abbrev pub on_record : Record → ℕ → ℕ → (ℕ → ℕ → Loaded) → Loaded
-on_record (Bad r q) p m rest = stop r q
-on_record (Whole k b l n next) p m rest = cond (ltb most_marks (m + mark_of k)) (stop TooManyMarks p) (push (item k n b) (rest (m + mark_of k) next))
+abbrev pub on_record : Result Record Fault → ℕ → ℕ → (ℕ → ℕ → Loaded) → Loaded
+on_record (Err f) p m rest = stop f.refusal f.place
+on_record (Ok r) p m rest =
+    cond (ltb most_marks (m + mark_of r.row)) (stop TooManyMarks p) (push (item r.row r.count r.body) (rest (m + mark_of r.row) r.next))
 
 -- the same where no more op may stand: a bad record gives its own number
-abbrev pub on_full : Record → ℕ → Loaded
-on_full (Bad r q) p = stop r q
-on_full (Whole k b l n next) p = stop TooManyOps p
+abbrev pub on_full : Result Record Fault → ℕ → Loaded
+on_full (Err f) p = stop f.refusal f.place
+on_full (Ok r) p = stop TooManyOps p
 
 -- from byte p on, where `left` more ops may stand and m marks stood before: "the first bad record, whose first byte is the place"
 abbrev pub walk : List ℕ → ℕ → ℕ → ℕ → Loaded

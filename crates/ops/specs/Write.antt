@@ -1,5 +1,5 @@
 -- The bytes of a record: what the writer of one record leaves of lent bytes, and the record of an op. Assumes nothing.
-use Rattle.std.specs.Prelude.{ℕ, ◌+◌, ◌^◌, ◌<◌, ◌≤◌, Bool, cond, false, List, [], ◌∷◌, ◌++◌, length, leb}
+use Rattle.std.specs.Prelude.{ℕ, ◌+◌, ◌^◌, ◌<◌, ◌≤◌, Bool, cond, false, List, [], ◌∷◌, ◌++◌, length, leb, Option, Some, None}
 use Rattle.basics.specs.Limits.{most_bytes, most_ops, most_marks, lanes, most_text}
 use Rattle.byte_fields.specs.Bytes.{le16, le32, le64}
 use Rattle.byte_fields.specs.Storage.{placed}
@@ -10,8 +10,6 @@ use Rattle.ops.specs.declared.op.Binding.TheVariants as binding
 use Rattle.ops.specs.Syntax.{Plain, Op, kind_of, is_function}
 use Rattle.ops.specs.Syntax.Plain.{comment, store, move, swap, locate, offset, deref, refer, cell, lane, get, put, peek, poke, ffi_call, alloc, free}
 use Rattle.ops.specs.Syntax.Op.{control, set, load, plain}
-use Rattle.ops.specs.declared.writer.Written.{Written}
-use Rattle.ops.specs.declared.writer.Written.TheVariants.{Next, NoRoom}
 
 -- "length (u32, bytes that follow it), kind (u16), payload"
 unfoldable pub record_of : ℕ → List ℕ → List ℕ
@@ -22,31 +20,31 @@ unfoldable pub has_room : ℕ → ℕ → ℕ → Bool
 has_room size at len = cond (leb (at + 6 + len) most_bytes) (leb (at + 6 + len) size) false
 
 -- the first column of 'Numbers given back': "written" is 0, "lent room too short" 40
-abbrev pub number_of : Written → ℕ
-number_of (Next n) = 0
-number_of NoRoom = 40
+abbrev pub number_of : Option ℕ → ℕ
+number_of (Some n) = 0
+number_of None = 40
 
 -- the byte after the record, where it is written; else the last column
-abbrev pub place_of : Written → ℕ
-place_of (Next n) = n
-place_of NoRoom = 0
+abbrev pub place_of : Option ℕ → ℕ
+place_of (Some n) = n
+place_of None = 0
 
 -- the answer with its number and place, and the lent bytes
 pub record Wrote : Type 0 where
-  pub answer : Written
+  pub answer : Option ℕ
   pub number : ℕ
   pub place : ℕ
   pub bytes : List ℕ
 
-abbrev pub wrote : Written → List ℕ → Wrote
+abbrev pub wrote : Option ℕ → List ℕ → Wrote
 wrote a s = record { answer = a; number = number_of a; place = place_of a; bytes = s }
 
 -- the record of kind k, all of it or none
 unfoldable pub write_of : List ℕ → ℕ → ℕ → List ℕ → Wrote
 write_of out at k payload =
     cond (has_room (length out) at (length payload))
-    (wrote (Next (at + 6 + length payload)) (placed out at (record_of k payload)))
-    (wrote NoRoom out)
+    (wrote (Some (at + 6 + length payload)) (placed out at (record_of k payload)))
+    (wrote None out)
 
 -- ---- an op's record
 

@@ -5,7 +5,7 @@ ghost use Rattle.ops.specs.Decode.{mode_in, binding_in};
 
 use byte_fields::read::u16_at;
 
-#[derive(Clone, Copy)]
+#[derive(Clone, Copy, PartialEq, Eq, Debug)]
 pub enum Mode {
     Char,
     Int,
@@ -17,18 +17,15 @@ pub fn mode_at(bytes: &[u8], at: usize) -> Mode
     requires { at + 2 ≤ length bytes.now }
     ensures { result ≡ mode_in (u16_at bytes.now at) }
 {
-    let mode = u16_at(bytes, at);
-    if mode == 0 {
-        return Mode::Char;
+    match u16_at(bytes, at) {
+        0 => Mode::Char,
+        1 => Mode::Int,
+        _ => Mode::Other,
     }
-    if mode == 1 {
-        return Mode::Int;
-    }
-    Mode::Other
 }
 
 // The functions that FFI Call can name.
-#[derive(Clone, Copy)]
+#[derive(Clone, Copy, PartialEq, Eq, Debug)]
 pub enum Binding {
     SquareRoot,
     Add,
@@ -39,9 +36,8 @@ pub fn binding_at(bytes: &[u8], at: usize) -> Binding
     requires { at + 2 ≤ length bytes.now }
     ensures { result ≡ binding_in (u16_at bytes.now at) }
 {
-    let binding = u16_at(bytes, at);
-    if binding == 0 {
-        return Binding::SquareRoot;
+    match u16_at(bytes, at) {
+        0 => Binding::SquareRoot,
+        _ => Binding::Add,
     }
-    Binding::Add
 }

@@ -10,4 +10,4 @@ pub returns : goal.returns
 returns c =
     let a = c.args in
     let h : a.at + 6 + length a.payload.now ≤ length a.out.now = omega arith in
-    (refl, rw (c.copy_bytes.ensures, c.put_u16.ensures, c.put_u32.ensures) (record_placed a.out.now a.at a.kind a.payload.now h))
+    (refl, rw (c.copy_bytes.ensures, c.put_u16.ensures, c.put_u32.ensures, c.from.ensures) (record_placed a.out.now a.at a.kind a.payload.now h))

@@ -5,8 +5,7 @@ use lib.ListN.{length}
 use Rattle.patch_reader.proofs.reader.load.Given as goal
 
 abbrev pub invariant-loop-at : goal.invariant-loop-at
-invariant-loop-at l =
-    Reading l.bytes l.initial.rows l.initial.counts l.initial.needs l.initial.payloads l.rows l.counts l.needs l.payloads l.at l.n l.marks
+invariant-loop-at l = Reading l.bytes l.initial.read l.read l.at l.n l.marks
 
 abbrev pub decreases-loop-at : goal.decreases-loop-at
 decreases-loop-at l = length l.bytes - l.at
