@@ -1,32 +1,41 @@
 -- 01's number and place for each answer of flattening, and what was written. Assumes nothing.
-use Rattle.std.specs.Prelude.{ℕ}
+use Rattle.std.specs.Prelude.{ℕ, Result, Ok, Err}
 use Rattle.answers.specs.declared.flatten.Flattened.{Flattened}
-use Rattle.answers.specs.declared.flatten.Flattened.TheVariants.{BadFile, NoOpenEnd, NoRoom, Written}
+use Rattle.patch_reader.specs.declared.reader.Unread.{Unread}
+use Rattle.answers.specs.declared.flatten.FlattenError.{FlattenError}
+use Rattle.answers.specs.declared.flatten.FlattenError.TheVariants.{BadFile, NoOpenEnd, NoRoom}
+
+abbrev pub Flattening : Type 0
+Flattening = Result Flattened FlattenError
+
+-- written: the result's ops, bytes and entries
+abbrev pub written : ℕ → ℕ → ℕ → Flattening
+written n b k = Ok (record { ops = n; bytes = b; bodies = k })
+
+-- "Every public call reads the patch first": what a file that is not good answers
+abbrev pub bad_file : Unread → FlattenError
+bad_file u = BadFile u.number u.place
 
 -- the first column of 'Numbers given back'
-abbrev pub number_of : Flattened → ℕ
-number_of (BadFile n p) = n
-number_of (NoOpenEnd i) = 10
-number_of NoRoom = 40
-number_of (Written n b k) = 0
+abbrev pub number_of : Flattening → ℕ
+number_of (Ok f) = 0
+number_of (Err (BadFile n p)) = n
+number_of (Err (NoOpenEnd i)) = 10
+number_of (Err NoRoom) = 40
 
 -- its last column: a bad file's byte, the op, 0, "op count .. the result's if written"
-abbrev pub place_of : Flattened → ℕ
-place_of (BadFile n p) = p
-place_of (NoOpenEnd i) = i
-place_of NoRoom = 0
-place_of (Written n b k) = n
+abbrev pub place_of : Flattening → ℕ
+place_of (Ok f) = f.ops
+place_of (Err (BadFile n p)) = p
+place_of (Err (NoOpenEnd i)) = i
+place_of (Err NoRoom) = 0
 
 -- "Written, the byte length is given too"
-abbrev pub bytes_of : Flattened → ℕ
-bytes_of (BadFile n p) = 0
-bytes_of (NoOpenEnd i) = 0
-bytes_of NoRoom = 0
-bytes_of (Written n b k) = b
+abbrev pub bytes_of : Flattening → ℕ
+bytes_of (Ok f) = f.bytes
+bytes_of (Err e) = 0
 
 -- the entries of "the caller's list"
-abbrev pub bodies_of : Flattened → ℕ
-bodies_of (BadFile n p) = 0
-bodies_of (NoOpenEnd i) = 0
-bodies_of NoRoom = 0
-bodies_of (Written n b k) = k
+abbrev pub bodies_of : Flattening → ℕ
+bodies_of (Ok f) = f.bodies
+bodies_of (Err e) = 0

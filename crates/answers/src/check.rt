@@ -1,12 +1,14 @@
 // What the check answers.
 ghost use Rattle.std.specs.Prelude.{◌≡◌};
-ghost use Rattle.answers.specs.Check.{number_of, place_of};
+ghost use Rattle.answers.specs.Check.{bad_file, number_of, place_of};
 
-// A patch that passed, and how many ops it has; the refusal of a bad file, its number and its byte; or the op that breaks a rule: an End or
-// an Else with no open bracket, too few known lanes, a bracket that is never closed.
-#[derive(Clone, Copy)]
-pub enum Verdict {
-    Passed { ops: usize },
+use crate::numbered::Numbered;
+use patch_reader::reader::Unread;
+
+// Why a patch does not pass: the refusal of a bad file, its number and its byte; or the op that breaks a rule: an End or an Else with no open
+// bracket, too few known lanes, a bracket that is never closed.
+#[derive(Clone, Copy, Debug, PartialEq, Eq)]
+pub enum CheckError {
     BadFile { number: usize, place: usize },
     NoOpenEnd { op: usize },
     NoOpenElse { op: usize },
@@ -14,29 +16,46 @@ pub enum Verdict {
     NeverClosed { op: usize },
 }
 
-// The number that is given back, and the place that goes with it.
-pub fn number_of(v: Verdict) -> usize
-    ensures { result ≡ number_of v }
-{
-    match v {
-        Verdict::Passed { ops: _ } => 0,
-        Verdict::BadFile { number, place: _ } => number,
-        Verdict::NoOpenEnd { op: _ } => 10,
-        Verdict::NoOpenElse { op: _ } => 11,
-        Verdict::FewLanes { op: _ } => 12,
-        Verdict::NeverClosed { op: _ } => 13,
+impl From<Unread> for CheckError {
+    ghost from_gives = { λ unread error. error ≡ bad_file unread };
+
+    fn from(unread: Unread) -> CheckError {
+        CheckError::BadFile {
+            number: unread.number,
+            place: unread.place,
+        }
     }
 }
 
-pub fn place_of(v: Verdict) -> usize
-    ensures { result ≡ place_of v }
-{
-    match v {
-        Verdict::Passed { ops } => ops,
-        Verdict::BadFile { number: _, place } => place,
-        Verdict::NoOpenEnd { op } => op,
-        Verdict::NoOpenElse { op } => op,
-        Verdict::FewLanes { op } => op,
-        Verdict::NeverClosed { op } => op,
+// Of a patch that passed, how many ops it has.
+pub type Verdict = Result<usize, CheckError>;
+
+impl Numbered for Verdict {
+    ghost number = { number_of };
+
+    ghost place = { place_of };
+
+    fn number(self) -> usize {
+        match self {
+            Ok(_) => 0,
+            Err(CheckError::BadFile { number, place: _ }) => number,
+            Err(CheckError::NoOpenEnd { op: _ }) => 10,
+            Err(CheckError::NoOpenElse { op: _ }) => 11,
+            Err(CheckError::FewLanes { op: _ }) => 12,
+            Err(CheckError::NeverClosed { op: _ }) => 13,
+        }
+    }
+
+    fn place(self) -> usize {
+        match self {
+            Ok(ops) => ops,
+            Err(CheckError::BadFile { number: _, place }) => place,
+            Err(
+                CheckError::NoOpenEnd { op }
+                | CheckError::NoOpenElse { op }
+                | CheckError::FewLanes { op }
+                | CheckError::NeverClosed { op },
+            ) => op,
+        }
     }
 }

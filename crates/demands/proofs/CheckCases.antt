@@ -11,10 +11,9 @@ use Rattle.ops.specs.Syntax.Op.{control, set, load, plain}
 use Rattle.ops.specs.declared.op.Mode.TheVariants.{Char}
 use Rattle.machine_model.specs.State.{rust_table, fresh}
 use Rattle.machine_model.specs.Run.{Answer, run}
-use Rattle.answers.specs.Check.{number_of, place_of}
+use Rattle.answers.specs.Check.{Verdict, number_of, place_of}
 use Rattle.patch_check.specs.Check.{check}
 use Rattle.demands.specs.Reached.{given}
-use Rattle.answers.specs.declared.check.Verdict.{Verdict}
 
 -- a patch, and what is seen: the check's number and place, and the number, steps and place of a run of at most 100 steps
 record Case : Type 0 where

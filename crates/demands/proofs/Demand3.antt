@@ -20,7 +20,7 @@ use Rattle.demands.specs.Reached.{Reached}
 use Rattle.demands.specs.Reached.Reached.{at_first, run_on}
 use Rattle.patch_check.specs.File.{check_of, KeepsFile}
 use Rattle.answers.specs.Check as checked
-use Rattle.answers.specs.declared.check.Verdict.{Verdict}
+use Rattle.answers.specs.Check.{Verdict}
 use Rattle.demands.proofs.File.{check_passes}
 use Rattle.demands.proofs.Safe.{Neither20Nor21, safe_resumed}
 use Rattle.busy.specs.Sums.{allowed}

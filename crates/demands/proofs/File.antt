@@ -13,10 +13,9 @@ use Rattle.ops.specs.Decode.{Patch, op_at, ops_of}
 use Rattle.ops.specs.Decode.Patch.{ops, refused}
 use Rattle.file_laws.proofs.Meaning.{ops_are, refused_are}
 use Rattle.patch_check.specs.Rules.{KeepsRules}
-use Rattle.answers.specs.Check.{number_of}
+use Rattle.answers.specs.Check.{Verdict, number_of}
 use Rattle.patch_check.specs.Check.{check}
 use Rattle.patch_check.specs.File.{check_patch, check_of, KeepsFile}
-use Rattle.answers.specs.declared.check.Verdict.{Verdict}
 use Rattle.demands.proofs.Checked.{passes}
 
 module _ (s : List ℕ) where

@@ -23,8 +23,7 @@ use Rattle.busy.specs.declared.busiest.Op.{Op as Busied}
 use Rattle.machine_model.proofs.Cases.{one, minus}
 use Rattle.machine_model.proofs.Cases as more
 use Rattle.patch_check.specs.Check.{check}
-use Rattle.answers.specs.Check.{number_of, place_of}
-use Rattle.answers.specs.declared.check.Verdict.{Verdict}
+use Rattle.answers.specs.Check.{Verdict, number_of, place_of}
 use Rattle.joining.specs.Join.{join}
 use Rattle.flattening.specs.Flatten.{flatten, Flat}
 use Rattle.flattening.specs.Flatten.Flat.{loose, flat}

@@ -19,11 +19,11 @@ use Rattle.machine_model.proofs.Scans.{length_brackets, brackets_at}
 use Rattle.patch_check.specs.Rules.{opens, closes, asks, leaves, known, Open, Breaks, NeverClosed, Says}
 use Rattle.patch_check.specs.Rules.Breaks.{no_end, no_else, few}
 use Rattle.patch_check.specs.Rules.Says.{fine, wrong, open_left}
-use Rattle.answers.specs.Check.{answer}
+use Rattle.std.specs.Prelude.{Ok, Err}
+use Rattle.answers.specs.Check.{Verdict, answer}
 use Rattle.patch_check.specs.Check.{stray_end, stray_else, depth, outermost, scan, check}
-use Rattle.answers.specs.declared.check.Verdict.{Verdict}
-use Rattle.answers.specs.declared.check.Verdict.TheVariants.{Passed, NoOpenEnd, NoOpenElse, FewLanes}
-use Rattle.answers.specs.declared.check.Verdict.TheVariants as ver
+use Rattle.answers.specs.declared.check.CheckError.TheVariants.{NoOpenEnd, NoOpenElse, FewLanes}
+use Rattle.answers.specs.declared.check.CheckError.TheVariants as error
 use Rattle.demands.proofs.Partner.{opens_append, closes_append}
 
 -- ---- the rules at one place of the rest of a patch, where d brackets are open and k lanes known
@@ -44,11 +44,11 @@ data Fails (d k : ℕ) (os : List Op) (i : ℕ) : ℕ → Type 0 where
 
 -- what the answer for the rest says, from the place p on; w is the place that 13 has
 data Tells (w p d k : ℕ) (os : List Op) : Verdict → Type 0 where
-  all : ((i : ℕ) → i < length os → Holds d k os i) → d + opens (brackets os) ≡ closes (brackets os) → (q : ℕ) → q ≡ p + length os → Tells w p d k os (Passed q)
-  stray_end_lem : (i q : ℕ) → i < length os → Fails d k os i 10 → ((j : ℕ) → j < i → Holds d k os j) → q ≡ p + i → Tells w p d k os (NoOpenEnd q)
-  stray_else_lem : (i q : ℕ) → i < length os → Fails d k os i 11 → ((j : ℕ) → j < i → Holds d k os j) → q ≡ p + i → Tells w p d k os (NoOpenElse q)
-  lacks : (i q : ℕ) → i < length os → Fails d k os i 12 → ((j : ℕ) → j < i → Holds d k os j) → q ≡ p + i → Tells w p d k os (FewLanes q)
-  over : ((i : ℕ) → i < length os → Holds d k os i) → closes (brackets os) < d + opens (brackets os) → Tells w p d k os (ver.NeverClosed w)
+  all : ((i : ℕ) → i < length os → Holds d k os i) → d + opens (brackets os) ≡ closes (brackets os) → (q : ℕ) → q ≡ p + length os → Tells w p d k os (Ok q)
+  stray_end_lem : (i q : ℕ) → i < length os → Fails d k os i 10 → ((j : ℕ) → j < i → Holds d k os j) → q ≡ p + i → Tells w p d k os (Err (NoOpenEnd q))
+  stray_else_lem : (i q : ℕ) → i < length os → Fails d k os i 11 → ((j : ℕ) → j < i → Holds d k os j) → q ≡ p + i → Tells w p d k os (Err (NoOpenElse q))
+  lacks : (i q : ℕ) → i < length os → Fails d k os i 12 → ((j : ℕ) → j < i → Holds d k os j) → q ≡ p + i → Tells w p d k os (Err (FewLanes q))
+  over : ((i : ℕ) → i < length os → Holds d k os i) → closes (brackets os) < d + opens (brackets os) → Tells w p d k os (Err (error.NeverClosed w))
 
 -- ---- one mark
 
@@ -135,7 +135,7 @@ told (o ∷ os) f p k d =
 
     by : (a b c : Bool) → stray_end (bracket o) d ≡ a → stray_else (bracket o) d ≡ b → ltb k (asks o) ≡ c → (w : ℕ) (r : Verdict)
         → Tells w (suc p) (depth (bracket o) d) (leaves o k) os r
-        → Tells w p d k (o ∷ os) (cond a (NoOpenEnd p) (cond b (NoOpenElse p) (cond c (FewLanes p) r)))
+        → Tells w p d k (o ∷ os) (cond a (Err (NoOpenEnd p)) (cond b (Err (NoOpenElse p)) (cond c (Err (FewLanes p)) r)))
     by true b c e g h w r t =
         let z = stray_end_is (bracket o) d e in
         stray_end_lem 0 p (omega arith) (bad_end z.0 (λ x. omega (arith, z.1))) none_first (sym (add-zero p))

@@ -14,12 +14,13 @@ use Rattle.file_laws.proofs.Meaning.{ops_are, refused_are}
 use Rattle.patch_check.specs.Check.{check}
 use Rattle.patch_check.specs.Rows.{row_scan}
 use Rattle.patch_check.specs.File.{check_of}
-use Rattle.answers.specs.declared.check.Verdict.{Verdict}
-use Rattle.answers.specs.declared.check.Verdict.TheVariants.{BadFile}
+use Rattle.std.specs.Prelude.{Err}
+use Rattle.answers.specs.Check.{Verdict}
+use Rattle.answers.specs.declared.check.CheckError.TheVariants.{BadFile}
 use Rattle.patch_check.proofs.RowsAreOps.{same_scan}
 
 module _ (s : List ℕ) (r : Read) (e : r ≡ read_of (patch_of s)) where
-  pub bad_file : (r.number ≡ 0 → ⊥) → BadFile r.number r.place ≡ check_of s
+  pub bad_file : (r.number ≡ 0 → ⊥) → Err (BadFile r.number r.place) ≡ check_of s
   unfolding check_of
   bad_file z = rw (refused_are s (loaded.bad_file s r e z), loaded.number_is s r e, loaded.bad_place s r e z)
 

@@ -22,7 +22,8 @@ use Rattle.file_laws.proofs.Meaning.{means}
 use Rattle.patch_check.specs.Rules.{opens, closes, asks, leaves}
 use Rattle.patch_check.specs.Check.{stray_end, stray_else, depth, outermost, ended, scan}
 use Rattle.patch_check.specs.Rows.{opens_of, ends_of, elses_of, need_of, after_of, outermost_of, row_scan}
-use Rattle.answers.specs.declared.check.Verdict.TheVariants.{Passed, NeverClosed}
+use Rattle.answers.specs.declared.check.CheckError.TheVariants.{NeverClosed}
+use Rattle.std.specs.Prelude.{Ok, Err}
 
 -- ---- brackets: tested at each of the 62 rows by one computation
 
@@ -197,7 +198,7 @@ unfolding outermost_of
 froms zero p f = refl
 froms (suc d) p f = rw (ne_eqb (suc d) 0 (λ e. omega arith))
 
-ends : (d p f : ℕ) → cond (eqb d 0) (Passed p) (NeverClosed f) ≡ ended d p f
+ends : (d p f : ℕ) → cond (eqb d 0) (Ok p) (Err (NeverClosed f)) ≡ ended d p f
 ends zero p f = refl
 ends (suc d) p f = rw (ne_eqb (suc d) 0 (λ e. omega arith))
 

@@ -1,11 +1,11 @@
 -- The check, computed in one pass. That its answer is the one that the rules allow is proved in proofs/. Assumes nothing.
-use Rattle.std.specs.Prelude.{ℕ, zero, suc, Bool, true, false, cond, List, [], ◌∷◌, ltb}
+use Rattle.std.specs.Prelude.{ℕ, zero, suc, Bool, true, false, cond, List, [], ◌∷◌, ltb, Ok, Err}
 use Rattle.ops.specs.Syntax.{Op, Bracket, bracket}
 use Rattle.ops.specs.Syntax.Bracket.{up, down, mid, flat}
 use Rattle.machine_model.specs.State.{lanes}
 use Rattle.patch_check.specs.Rules.{asks, leaves}
-use Rattle.answers.specs.declared.check.Verdict.{Verdict}
-use Rattle.answers.specs.declared.check.Verdict.TheVariants.{Passed, NoOpenEnd, NoOpenElse, FewLanes, NeverClosed}
+use Rattle.answers.specs.Check.{Verdict}
+use Rattle.answers.specs.declared.check.CheckError.TheVariants.{NoOpenEnd, NoOpenElse, FewLanes, NeverClosed}
 
 -- an End, and an Else, where no bracket is open
 abbrev pub stray_end : Bracket → ℕ → Bool
@@ -37,17 +37,17 @@ outermost (suc d) p f = f
 
 -- after the last op: 13 where a bracket is open
 abbrev pub ended : ℕ → ℕ → ℕ → Verdict
-ended zero p f = Passed p
-ended (suc d) p f = NeverClosed f
+ended zero p f = Ok p
+ended (suc d) p f = Err (NeverClosed f)
 
 -- the ops from the place p on, where k lanes are known and d brackets open, the outermost of them at f
 unfoldable pub scan : ℕ → ℕ → ℕ → ℕ → List Op → Verdict
 scan f p k d [] = ended d p f
 scan f p k d (o ∷ os) =
     let r = scan (outermost d p f) (suc p) (leaves o k) (depth (bracket o) d) os in
-    cond (stray_end (bracket o) d) (NoOpenEnd p)
-    (cond (stray_else (bracket o) d) (NoOpenElse p)
-    (cond (ltb k (asks o)) (FewLanes p) r))
+    cond (stray_end (bracket o) d) (Err (NoOpenEnd p))
+    (cond (stray_else (bracket o) d) (Err (NoOpenElse p))
+    (cond (ltb k (asks o)) (Err (FewLanes p)) r))
 
 unfoldable pub check : List Op → Verdict
 unfolding scan

@@ -1,10 +1,10 @@
 -- The check by what the reader gives of each op: the row of its kind, and what it counts. Assumes nothing.
-use Rattle.std.specs.Prelude.{ℕ, suc, ◌+◌, ◌-◌, cond, List, [], ◌∷◌, ltb, eqb}
+use Rattle.std.specs.Prelude.{ℕ, suc, ◌+◌, ◌-◌, cond, List, [], ◌∷◌, ltb, eqb, Ok, Err}
 use Rattle.kind_table.specs.Rows as row
 use Rattle.kind_table.specs.Columns.{no_lane, own_lanes, as_before, own_count}
 use Rattle.kind_table.specs.Kinds.{need, after, kind_at}
-use Rattle.answers.specs.declared.check.Verdict.{Verdict}
-use Rattle.answers.specs.declared.check.Verdict.TheVariants.{Passed, NoOpenEnd, NoOpenElse, FewLanes, NeverClosed}
+use Rattle.answers.specs.Check.{Verdict}
+use Rattle.answers.specs.declared.check.CheckError.TheVariants.{NoOpenEnd, NoOpenElse, FewLanes, NeverClosed}
 
 -- Function, While and If open a bracket, End closes one, Else must stand in one
 unfoldable pub opens_of : ℕ → ℕ
@@ -28,8 +28,8 @@ outermost_of d p f = cond (eqb d 0) p f
 
 -- `scan` of Check, on rows and counts
 unfoldable pub row_scan : ℕ → ℕ → ℕ → ℕ → List ℕ → List ℕ → Verdict
-row_scan f p m d [] ns = cond (eqb d 0) (Passed p) (NeverClosed f)
-row_scan f p m d (k ∷ ks) [] = cond (eqb d 0) (Passed p) (NeverClosed f)
+row_scan f p m d [] ns = cond (eqb d 0) (Ok p) (Err (NeverClosed f))
+row_scan f p m d (k ∷ ks) [] = cond (eqb d 0) (Ok p) (Err (NeverClosed f))
 row_scan f p m d (k ∷ ks) (n ∷ ns) =
     let r = row_scan (outermost_of d p f) (suc p) (after_of k n m) (d + opens_of k - ends_of k) ks ns in
-    cond (ltb d (ends_of k)) (NoOpenEnd p) (cond (ltb d (elses_of k)) (NoOpenElse p) (cond (ltb m (need_of k n)) (FewLanes p) r))
+    cond (ltb d (ends_of k)) (Err (NoOpenEnd p)) (cond (ltb d (elses_of k)) (Err (NoOpenElse p)) (cond (ltb m (need_of k n)) (Err (FewLanes p)) r))

@@ -5,8 +5,7 @@ ghost use Rattle.patch_check.specs.Rows.{outermost_of, row_scan};
 ghost use Rattle.patch_check.specs.File.{check_of};
 
 use crate::rows::{after_of, elses_of, ends_of, need_of, opens_of};
-use answers::check::Verdict;
-use basics::wide::{wide_byte, wide_short};
+use answers::check::{CheckError, Verdict};
 use ops::records::Record;
 use patch_reader::reader::{Read, load};
 
@@ -25,32 +24,30 @@ fn check_ops(rows: &[u8], counts: &[u16]) -> Verdict
     requires { (length rows.now ≤ most_ops) × (length counts.now ≡ length rows.now) }
     ensures { result ≡ row_scan 0 0 lanes 0 rows.now counts.now }
 {
-    let mut known: usize = Record::LANES;
-    let mut depth: usize = 0;
-    let mut outermost: usize = 0;
-    let mut i: usize = 0;
-    while i < rows.len() {
-        let k = wide_byte(rows[i]);
-        let n = wide_short(counts[i]);
+    let mut known = Record::LANES;
+    let mut depth = 0;
+    let mut outermost = 0;
+    for op in 0..rows.len() {
+        let k = usize::from(rows[op]);
+        let n = usize::from(counts[op]);
         let ends = ends_of(k);
         if depth < ends {
-            return Verdict::NoOpenEnd { op: i };
+            return Err(CheckError::NoOpenEnd { op });
         }
         if depth < elses_of(k) {
-            return Verdict::NoOpenElse { op: i };
+            return Err(CheckError::NoOpenElse { op });
         }
         if known < need_of(k, n) {
-            return Verdict::FewLanes { op: i };
+            return Err(CheckError::FewLanes { op });
         }
-        outermost = outermost_of(depth, outermost, i);
+        outermost = outermost_of(depth, outermost, op);
         depth = depth + opens_of(k) - ends;
         known = after_of(k, n, known);
-        i += 1;
     }
     if depth == 0 {
-        return Verdict::Passed { ops: i };
+        return Ok(rows.len());
     }
-    Verdict::NeverClosed { op: outermost }
+    Err(CheckError::NeverClosed { op: outermost })
 }
 
 // Reads a patch, then checks it.
@@ -65,7 +62,7 @@ pub fn check(bytes: &[u8]) -> Verdict
     let number = read.number;
     if number != 0 {
         let place = read.place;
-        return Verdict::BadFile { number, place };
+        return Err(CheckError::BadFile { number, place });
     }
     let n = read.ops;
     check_ops(&rows[..n], &counts[..n])
