@@ -12,6 +12,7 @@ mod shape; // joins and flattenings
 use crate::list::{CASE, Damaged, PATCH, Reader};
 use crate::run::Way;
 use crate::tell::Tell;
+use answers::numbered::Numbered;
 use byte_fields::read::u32_at;
 use streams::print::{end_line, number};
 
@@ -22,10 +23,7 @@ fn check(tell: Tell, file: &[u8], case: &[u8]) -> Result<bool, Damaged> {
     let place = reader.word()?;
     reader.end()?;
     let v = patch_check::check::check(file);
-    Ok(
-        tell.same(b"number", number, answers::check::number_of(v))
-            && tell.same(b"place", place, answers::check::place_of(v)),
-    )
+    Ok(tell.same(b"number", number, v.number()) && tell.same(b"place", place, v.place()))
 }
 
 // The sorts of a case.

@@ -1,11 +1,9 @@
 // A case that is a run, from a state or fresh, or a step.
-use crate::list::{
-    CELLS, COUNTS, Damaged, ENTRIES, INPUTS, LANES, OUTPUTS, PLACES, Reader,
-};
+use crate::list::{CELLS, COUNTS, Damaged, ENTRIES, INPUTS, LANES, OUTPUTS, PLACES, Reader};
 use crate::slices::{Contents, Six, Slice, expected, given};
 use crate::state::{machine, same_machine};
 use crate::tell::Tell;
-use answers::run::{Answer, lane_of, number_of, place_of};
+use answers::run::Answer;
 use machine::machine::{Machine, Ran, Stepped};
 
 // What is asked of a machine.
@@ -79,10 +77,10 @@ impl<'a> Expected<'a> {
 
     fn same(&self, tell: Tell, r: &Ran) -> bool {
         let at = r.machine.numbers.position;
-        tell.same(b"number", self.number, number_of(r.answer))
+        tell.same(b"number", self.number, r.answer.number())
             && tell.same(b"steps", self.steps, r.steps as usize)
-            && tell.same(b"place", self.place, place_of(r.answer, at))
-            && tell.same(b"lane", self.lane, lane_of(r.answer))
+            && tell.same(b"place", self.place, r.answer.place(at))
+            && tell.same(b"lane", self.lane, r.answer.lane())
             && same_machine(tell, &self.machine, &r.machine)
     }
 
@@ -123,7 +121,7 @@ fn of_step(r: Stepped) -> Ran {
     let Stepped { answer, machine } = r;
     Ran {
         answer,
-        steps: u32::from(matches!(answer, Answer::Went)),
+        steps: u32::from(answer == Answer::Went),
         machine,
     }
 }
@@ -190,13 +188,15 @@ pub fn replay(tell: Tell, way: Way, file: &[u8], case: &[u8]) -> Result<bool, Da
         *value = u64::from_le_bytes(*bytes);
     }
     let mut lent = Lent {
-        register: slices.register.lay(&mut register)?,
-        tape: slices.tape.lay(&mut tape)?,
-        table: slices.table.lay_table(&mut table)?,
-        channel: slices.channel.lay(&mut channel)?,
+        register: slices.register.lay(&mut register, |value| value)?,
+        tape: slices.tape.lay(&mut tape, |value| value)?,
+        table: slices
+            .table
+            .lay(&mut table, |value| (value % 65536) as u16)?,
+        channel: slices.channel.lay(&mut channel, |value| value)?,
         input: input.get(..inputs.len()).ok_or(Damaged)?,
-        output: slices.output.lay(&mut output)?,
-        tally: slices.tally.lay(&mut tally)?,
+        output: slices.output.lay(&mut output, |value| value)?,
+        tally: slices.tally.lay(&mut tally, |value| value)?,
     };
     let r = lent.start(file, start, budget);
     Ok(expected.same(tell, &r) && expected.same_slices(tell, &lent))

@@ -3,7 +3,12 @@ ghost use Rattle.std.specs.Prelude.{◌≤◌};
 
 use crate::list::{BODIES, Damaged, ROOM, Reader};
 use crate::tell::Tell;
+use answers::flatten::{bodies_of, bytes_of};
+use answers::join::length_of;
+use answers::numbered::Numbered;
 use byte_fields::read::u32_at;
+use flattening::numbers::flatten_numbers;
+use joining::join::join;
 
 // What is expected: the numbers of the answer, and the bytes that are written. What is not written keeps the fill.
 #[derive(Clone, Copy)]
@@ -22,9 +27,9 @@ impl<'a> Expected<'a> {
         })
     }
 
-    fn same(self, tell: Tell, number: usize, place: usize, length: usize) -> bool {
-        tell.same(b"number", self.number, number)
-            && tell.same(b"place", self.place, place)
+    fn same<A: Numbered + Copy>(self, tell: Tell, answer: A, length: usize) -> bool {
+        tell.same(b"number", self.number, answer.number())
+            && tell.same(b"place", self.place, answer.place())
             && tell.same(b"byte length", self.bytes.len(), length)
     }
 
@@ -45,11 +50,8 @@ pub fn replay_join(tell: Tell, file: &[u8], case: &[u8]) -> Result<bool, Damaged
     reader.end()?;
     let mut storage = [fill; ROOM];
     let out = storage.get_mut(..room).ok_or(Damaged)?;
-    let r = joining::join::join(file, out);
-    let number = answers::join::number_of(r);
-    let place = answers::join::place_of(r);
-    let length = answers::join::length_of(r);
-    Ok(expected.same(tell, number, place, length) && expected.same_bytes(tell, fill, out))
+    let answer = join(file, out);
+    Ok(expected.same(tell, answer, length_of(answer)) && expected.same_bytes(tell, fill, out))
 }
 
 // One number of each body, which stands so many bytes on in it.
@@ -93,14 +95,13 @@ pub fn replay_flatten(tell: Tell, file: &[u8], case: &[u8]) -> Result<bool, Dama
     let numbers = all_numbers.get_mut(..body_room).ok_or(Damaged)?;
     let firsts = all_firsts.get_mut(..body_room).ok_or(Damaged)?;
     let counts = all_counts.get_mut(..body_room).ok_or(Damaged)?;
-    let r = flattening::numbers::flatten_numbers(file, out, numbers, firsts, counts);
-    let number = answers::flatten::number_of(r);
-    let place = answers::flatten::place_of(r);
-    let length = answers::flatten::bytes_of(r);
-    Ok(expected.same(tell, number, place, length)
-        && expected.same_bytes(tell, fill, out)
-        && tell.same(b"bodies", bodies.len(), answers::flatten::bodies_of(r))
-        && same_bodies(tell, b"number of body", bodies, 0, fill, numbers)
-        && same_bodies(tell, b"first op of body", bodies, 4, fill, firsts)
-        && same_bodies(tell, b"op count of body", bodies, 8, fill, counts))
+    let answer = flatten_numbers(file, out, numbers, firsts, counts);
+    Ok(
+        expected.same(tell, answer, bytes_of(answer))
+            && expected.same_bytes(tell, fill, out)
+            && tell.same(b"bodies", bodies.len(), bodies_of(answer))
+            && same_bodies(tell, b"number of body", bodies, 0, fill, numbers)
+            && same_bodies(tell, b"first op of body", bodies, 4, fill, firsts)
+            && same_bodies(tell, b"op count of body", bodies, 8, fill, counts),
+    )
 }

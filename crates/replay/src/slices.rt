@@ -50,21 +50,17 @@ impl<'a> Slice<'a> {
         })
     }
 
-    // Lays it down, and lends as much of the storage as it has elements.
-    pub fn lay(self, storage: &mut [u64]) -> Result<&mut [u64], Damaged> {
+    // Lays it down, each value as an element of the storage, and lends as much of the storage as it has elements.
+    pub fn lay<T: Copy, F: Fn(u64) -> T>(
+        self,
+        storage: &mut [T],
+        element: F,
+    ) -> Result<&mut [T], Damaged>
+        requires { F.IsAlwaysCallable element }
+    {
         for entry in self.contents.entries {
             if let Some(place) = storage.get_mut(u32_at(entry, 0)) {
-                *place = u64_at(entry, 4);
-            }
-        }
-        storage.get_mut(..self.length).ok_or(Damaged)
-    }
-
-    // The same of the table of functions, whose entries have two bytes.
-    pub fn lay_table(self, storage: &mut [u16]) -> Result<&mut [u16], Damaged> {
-        for entry in self.contents.entries {
-            if let Some(place) = storage.get_mut(u32_at(entry, 0)) {
-                *place = u16::from_le_bytes([entry[4], entry[5]]);
+                *place = element(u64_at(entry, 4));
             }
         }
         storage.get_mut(..self.length).ok_or(Damaged)

@@ -3,10 +3,10 @@
 // and place and count of the ten busiest ops; of a bad file `load`, its number and place alone.
 #![tactic(auto)]
 
-use answers::check::Verdict;
-use answers::run::{number_of, place_of};
+use answers::numbered::Numbered;
 use busy::busiest::{Busy, busiest};
 use machine::machine::Machine;
+use patch_check::check::check;
 use patch_reader::reader::read_patch;
 use std::env::FillError;
 use std::rt::Env;
@@ -60,9 +60,9 @@ fn run(file: &[u8], mode: u32, tally: &mut [u64]) {
     let answer = r.answer;
     let m = r.machine.numbers;
     io::write_all(1, b"run");
-    number(number_of(answer));
+    number(answer.number());
     number(r.steps as usize);
-    number(place_of(answer, m.position));
+    number(answer.place(m.position));
     end_line();
     io::write_all(1, b"out");
     lanes(&output, 0, m.written);
@@ -71,19 +71,16 @@ fn run(file: &[u8], mode: u32, tally: &mut [u64]) {
 }
 
 fn check_and_run(file: &[u8], mode: u32) {
-    let v = patch_check::check::check(file);
-    if let Verdict::BadFile { number, place } = v {
-        show_answer(b"load", number, place);
-        return;
+    match read_patch(file) {
+        Ok(ops) => {
+            let verdict = check(file);
+            show_answer(b"check", verdict.number(), verdict.place());
+            let mut tally = [0u64; Machine::OPS];
+            let n = ops.min(tally.len());
+            run(file, mode, &mut tally[..n]);
+        }
+        Err(unread) => show_answer(b"load", unread.number, unread.place),
     }
-    show_answer(
-        b"check",
-        answers::check::number_of(v),
-        answers::check::place_of(v),
-    );
-    let mut tally = [0u64; Machine::OPS];
-    let ops = read_patch(file).ops.min(tally.len());
-    run(file, mode, &mut tally[..ops]);
 }
 
 // The one argument that the runner takes.

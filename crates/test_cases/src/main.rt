@@ -6,9 +6,7 @@
 // bytes and bodies that there is room for, and of lanes that the register has room for; the budget by four; and the number of counts by two.
 #![tactic(auto)]
 
-use answers::flatten::Flattened;
-use answers::join::Joined;
-use answers::run::{number_of, place_of};
+use answers::numbered::Numbered;
 use byte_fields::read::{u16_at, u32_at, u64_at};
 use machine::machine::Machine;
 use streams::print::{end_line, lane, lanes, number};
@@ -128,11 +126,11 @@ fn show_counts(total: u64, tally: &[u64; Machine::OPS], n: usize) {
     lanes(tally, 0, n);
 }
 
-fn show_check(file: &[u8]) {
-    let v = patch_check::check::check(file);
-    io::write_all(1, b" check");
-    number(answers::check::number_of(v));
-    number(answers::check::place_of(v));
+// A word, and the number and the place of an answer after it.
+fn show_answer<A: Numbered + Copy>(word: &[u8], answer: A) {
+    io::write_all(1, word);
+    number(answer.number());
+    number(answer.place());
 }
 
 // Reads the input values, and runs the patch with the storage that is lent.
@@ -166,9 +164,9 @@ fn show_run(head: Head, file: &[u8]) {
     let left = r.machine;
     let m = left.numbers;
     io::write_all(1, b" run");
-    number(number_of(answer));
+    number(answer.number());
     number(r.steps as usize);
-    number(place_of(answer, m.position));
+    number(answer.place(m.position));
     show_lane(&register, m.lanes);
     io::write_all(1, b" pointer");
     number(m.pointer);
@@ -179,12 +177,6 @@ fn show_run(head: Head, file: &[u8]) {
     if head.work == Work::Count {
         show_counts(left.total, &tally, ops);
     }
-}
-
-fn show_answer(word: &[u8], n: usize, place: usize) {
-    io::write_all(1, word);
-    number(n);
-    number(place);
 }
 
 // The n bytes that were written.
@@ -201,13 +193,10 @@ fn show_bytes(out: &[u8; 64], n: usize) {
 fn show_join(head: Head, file: &[u8]) {
     let mut out = [0u8; 64];
     let room = head.room.min(out.len());
-    match joining::join::join(file, &mut out[..room]) {
-        Joined::BadFile(n, place) => show_answer(b" join", n, place),
-        Joined::NoRoom => show_answer(b" join", 40, 0),
-        Joined::Written(ops, bytes) => {
-            show_answer(b" join", 0, ops);
-            show_bytes(&out, bytes);
-        }
+    let r = joining::join::join(file, &mut out[..room]);
+    show_answer(b" join", r);
+    if let Ok(joined) = r {
+        show_bytes(&out, joined.bytes);
     }
 }
 
@@ -238,30 +227,21 @@ fn show_flatten(head: Head, file: &[u8]) {
         &mut firsts,
         &mut counts,
     );
-    show_answer(
-        b" flatten",
-        answers::flatten::number_of(r),
-        answers::flatten::place_of(r),
-    );
-    if let Flattened::Written {
-        ops: _,
-        bytes,
-        bodies,
-    } = r
-    {
-        show_bodies(&numbers, &firsts, &counts, bodies);
-        show_bytes(&out, bytes);
+    show_answer(b" flatten", r);
+    if let Ok(flattened) = r {
+        show_bodies(&numbers, &firsts, &counts, flattened.bodies);
+        show_bytes(&out, flattened.bytes);
     }
 }
 
 // Reads the patch, and works it.
-fn work(head: Head, file: &mut [u8]) {
+fn show_case(head: Head, file: &mut [u8]) {
     io::read_full(0, file);
     match head.work {
         Work::Join => show_join(head, file),
         Work::Flatten => show_flatten(head, file),
         Work::Run | Work::Count => {
-            show_check(file);
+            show_answer(b" check", patch_check::check::check(file));
             show_run(head, file);
         }
     }
@@ -272,7 +252,7 @@ fn case(head: Head) {
     show_name(head.name);
     let mut file = [0u8; Machine::FILE];
     let n = head.patch.min(file.len());
-    work(head, &mut file[..n]);
+    show_case(head, &mut file[..n]);
 }
 
 // A proved loop has to end, and nothing says that the cases do: so there is a bound on the turns.

@@ -7,6 +7,8 @@
 
 ghost use Rattle.std.specs.Prelude.{◌≡◌, ◌+◌, ◌<◌, ◌≤◌, length};
 
+use patch_reader::reader::read_patch;
+
 // Two bytes as a length.
 fn size(low: u8, high: u8) -> usize
     ensures { result < 65536 }
@@ -43,12 +45,15 @@ fn again(file: &mut [u8], at: usize, back: usize, n: usize) -> usize
 fn show(file: &[u8], n: usize)
     requires { n ≤ length file.now }
 {
-    let r = patch_reader::reader::read_patch(&file[..n]);
-    io::print_decimal(1, r.number as u64);
+    let (number, place, ops) = match read_patch(&file[..n]) {
+        Ok(ops) => (0, ops, ops),
+        Err(unread) => (unread.number, unread.place, unread.ops),
+    };
+    io::print_decimal(1, number as u64);
     io::write_all(1, b" ");
-    io::print_decimal(1, r.place as u64);
+    io::print_decimal(1, place as u64);
     io::write_all(1, b" ");
-    io::print_decimal(1, r.ops as u64);
+    io::print_decimal(1, ops as u64);
     io::write_all(1, b"\n");
 }
 
