@@ -6,7 +6,8 @@ mod vectors; // vectors.rt: the kinds and the patterns
 
 use lanes::lane::{CellOp, LaneOp, cell_rule, lane_rule};
 
-// What the op of a kind gives of a lane and the cell beside it. The ops that work a lane alone do not look at the cell.
+// What the op of a kind gives of a lane and the cell beside it. The ops that work a lane alone do not look at the cell. A kind is the number of the
+// patch format here, as make.py has it and as it is printed.
 fn op(kind: u64, a: u64, b: u64) -> u64 {
     match kind {
         15 => cell_rule(CellOp::Index, a, b),
