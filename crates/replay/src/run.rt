@@ -1,6 +1,6 @@
 // A case that is a run, from a state or fresh, or a step.
 use crate::list::{CELLS, COUNTS, Damaged, ENTRIES, INPUTS, LANES, OUTPUTS, PLACES, Reader};
-use crate::slices::{Contents, Six, Slice, expected, given};
+use crate::slices::{Contents, Six, Slice};
 use crate::state::{machine, same_machine};
 use crate::tell::Tell;
 use answers::run::Answer;
@@ -46,7 +46,7 @@ impl<'a> Given<'a> {
         Ok(Given {
             budget: reader.number()?,
             inputs: reader.counted()?,
-            slices: given(reader)?,
+            slices: Six::read(reader)?,
             start: Start::read(reader, way)?,
         })
     }
@@ -71,7 +71,7 @@ impl<'a> Expected<'a> {
             place: reader.word()?,
             lane: reader.word()?,
             machine: machine(reader)?,
-            slices: expected(reader)?,
+            slices: Six::read(reader)?,
         })
     }
 

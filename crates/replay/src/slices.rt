@@ -3,19 +3,26 @@ use crate::list::{Damaged, Reader};
 use crate::tell::Tell;
 use byte_fields::read::{u32_at, u64_at};
 
+// What a case has of a slice.
+pub trait Part<'a>: Sized {
+    fn read(reader: &mut Reader<'a>) -> Result<Self, Damaged>;
+}
+
 // The contents of a slice: those of its entries that are not zero, the index and the value of each.
 #[derive(Clone, Copy)]
 pub struct Contents<'a> {
     entries: &'a [[u8; 12]],
 }
 
-impl<'a> Contents<'a> {
+impl<'a> Part<'a> for Contents<'a> {
     fn read(reader: &mut Reader<'a>) -> Result<Contents<'a>, Damaged> {
         Ok(Contents {
             entries: reader.counted()?,
         })
     }
+}
 
+impl Contents<'_> {
     // Whether a slice has these contents, and is zero elsewhere.
     pub fn same(self, tell: Tell, what: &[u8], came: &[u64]) -> bool {
         let mut left = self.entries;
@@ -42,14 +49,16 @@ pub struct Slice<'a> {
     contents: Contents<'a>,
 }
 
-impl<'a> Slice<'a> {
+impl<'a> Part<'a> for Slice<'a> {
     fn read(reader: &mut Reader<'a>) -> Result<Slice<'a>, Damaged> {
         Ok(Slice {
             length: reader.word()?,
             contents: Contents::read(reader)?,
         })
     }
+}
 
+impl Slice<'_> {
     // Lays it down, each value as an element of the storage, and lends as much of the storage as it has elements.
     pub fn lay<T: Copy, F: Fn(u64) -> T>(
         self,
@@ -78,24 +87,18 @@ pub struct Six<T> {
     pub tally: T,
 }
 
-pub fn given<'a>(reader: &mut Reader<'a>) -> Result<Six<Slice<'a>>, Damaged> {
-    Ok(Six {
-        tape: Slice::read(reader)?,
-        register: Slice::read(reader)?,
-        table: Slice::read(reader)?,
-        channel: Slice::read(reader)?,
-        output: Slice::read(reader)?,
-        tally: Slice::read(reader)?,
-    })
-}
-
-pub fn expected<'a>(reader: &mut Reader<'a>) -> Result<Six<Contents<'a>>, Damaged> {
-    Ok(Six {
-        tape: Contents::read(reader)?,
-        register: Contents::read(reader)?,
-        table: Contents::read(reader)?,
-        channel: Contents::read(reader)?,
-        output: Contents::read(reader)?,
-        tally: Contents::read(reader)?,
-    })
+impl<T> Six<T> {
+    pub fn read<'a>(reader: &mut Reader<'a>) -> Result<Six<T>, Damaged>
+    where
+        T: Part<'a> + Copy,
+    {
+        Ok(Six {
+            tape: T::read(reader)?,
+            register: T::read(reader)?,
+            table: T::read(reader)?,
+            channel: T::read(reader)?,
+            output: T::read(reader)?,
+            tally: T::read(reader)?,
+        })
+    }
 }
