@@ -1,7 +1,6 @@
-// What a case of a list says, by places in its bytes (docs/REPLAY.md). A place that is not there is BEYOND, and the number that stands there 0.
+// What a case of a list says, read from its front (docs/REPLAY.md).
 ghost use Rattle.std.specs.Prelude.{◌<◌};
 
-use byte_fields::read::{u32_at, u64_at};
 use machine::machine::Machine;
 
 // The bounds that a list keeps: the bytes of a patch, which may be one more than the longest file has, and of a case beside it; what a run is
@@ -30,108 +29,79 @@ pub const ROOM: usize = 65552;
 
 pub const BODIES: usize = 264;
 
-pub const BEYOND: usize = 0xffffffff;
+// A case that is cut short, too long or not in the form of a list.
+#[derive(Clone, Copy)]
+pub struct Damaged;
 
-// The place n bytes on.
-pub fn after(case: &[u8], at: usize, n: usize) -> usize {
-    if case.len() < at {
-        return BEYOND;
-    }
-    if case.len() - at < n {
-        return BEYOND;
-    }
-    at + n
+// The bytes of a case that are still to be read.
+#[derive(Drop)]
+pub struct Reader<'a> {
+    rest: &'a [u8],
 }
 
-pub fn word(case: &[u8], at: usize) -> usize
-    ensures { result < 4294967296 }
-{
-    if case.len() < 4 {
-        return 0;
+impl<'a> Reader<'a> {
+    pub fn new(case: &'a [u8]) -> Reader<'a> {
+        Reader { rest: case }
     }
-    if case.len() - 4 < at {
-        return 0;
+
+    // The next n bytes.
+    fn bytes(&mut self, n: usize) -> Result<&'a [u8], Damaged> {
+        let (front, rest) = self.rest.split_at_checked(n).ok_or(Damaged)?;
+        self.rest = rest;
+        Ok(front)
     }
-    u32_at(case, at)
-}
 
-// The number n bytes on.
-pub fn word_on(case: &[u8], at: usize, n: usize) -> usize
-    ensures { result < 4294967296 }
-{
-    word(case, after(case, at, n))
-}
-
-pub fn value(case: &[u8], at: usize) -> u64 {
-    if case.len() < 8 {
-        return 0;
+    fn array<const N: usize>(&mut self) -> Result<[u8; N], Damaged> {
+        let (front, rest) = self.rest.split_first_chunk::<N>().ok_or(Damaged)?;
+        self.rest = rest;
+        Ok(*front)
     }
-    if case.len() - 8 < at {
-        return 0;
+
+    pub fn byte(&mut self) -> Result<u8, Damaged> {
+        Ok(u8::from_le_bytes(self.array()?))
     }
-    u64_at(case, at)
-}
 
-// Sets an element that is there.
-fn put(values: &mut [u64], i: usize, v: u64) {
-    if i < values.len() {
-        values[i] = v;
+    pub fn number(&mut self) -> Result<u32, Damaged> {
+        Ok(u32::from_le_bytes(self.array()?))
     }
-}
 
-// A count, then so many values: lays them down.
-pub fn inputs(case: &[u8], at: usize, values: &mut [u64]) {
-    let n = word(case, at);
-    let mut from = after(case, at, 4);
-    let mut i: usize = 0;
-    while i < n {
-        put(values, i, value(case, from));
-        from = after(case, from, 8);
-        i += 1;
+    // The same as a length or a place.
+    pub fn word(&mut self) -> Result<usize, Damaged> {
+        Ok(self.number()? as usize)
     }
-}
 
-// The place after them.
-pub fn after_inputs(case: &[u8], at: usize) -> usize {
-    let n = word(case, at);
-    if INPUTS < n {
-        return BEYOND;
+    pub fn value(&mut self) -> Result<u64, Damaged> {
+        Ok(u64::from_le_bytes(self.array()?))
     }
-    after(case, after(case, at, 4), 8 * n)
-}
 
-// The contents of a slice, those of its entries that are not zero: lays them down.
-pub fn contents(case: &[u8], at: usize, values: &mut [u64]) {
-    let n = word(case, at);
-    let mut from = after(case, at, 4);
-    let mut i: usize = 0;
-    while i < n {
-        put(values, word(case, from), value(case, after(case, from, 4)));
-        from = after(case, from, 12);
-        i += 1;
+    // n records of N bytes each.
+    pub fn records<const N: usize>(&mut self, n: usize) -> Result<&'a [[u8; N]], Damaged>
+        requires { 0 < N }
+    {
+        let bytes = self.bytes(n.checked_mul(N).ok_or(Damaged)?)?;
+        Ok(bytes.as_chunks().0)
     }
-}
 
-pub fn after_contents(case: &[u8], at: usize) -> usize {
-    after(case, after(case, at, 4), 12 * word(case, at))
-}
-
-// The place after a slice, its length and its contents, where it has at most so many elements.
-pub fn after_slice(case: &[u8], at: usize, most: usize) -> usize {
-    if most < word(case, at) {
-        return BEYOND;
+    // A count, then so many records.
+    pub fn counted<const N: usize>(&mut self) -> Result<&'a [[u8; N]], Damaged>
+        requires { 0 < N }
+    {
+        let n = self.word()?;
+        self.records(n)
     }
-    after_contents(case, after(case, at, 4))
-}
 
-pub fn byte(case: &[u8], at: usize) -> u8 {
-    if case.len() <= at {
-        return 0;
+    // A count, then so many bytes.
+    pub fn text(&mut self) -> Result<&'a [u8], Damaged> {
+        let n = self.word()?;
+        self.bytes(n)
     }
-    case[at]
-}
 
-// The place after a count and so many bytes.
-pub fn after_bytes(case: &[u8], at: usize) -> usize {
-    after(case, after(case, at, 4), word(case, at))
+    // There is nothing more.
+    pub fn end(&self) -> Result<(), Damaged> {
+        if self.rest.is_empty() {
+            Ok(())
+        } else {
+            Err(Damaged)
+        }
+    }
 }

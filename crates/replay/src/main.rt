@@ -4,95 +4,105 @@
 
 mod list; // the bytes of a case
 mod tell; // what is said of a difference
-mod found; // what is found of a case
 mod state; // a machine
 mod slices; // the six slices of a run
 mod run; // runs, fresh and from a state, and steps
 mod shape; // joins and flattenings
 
-use crate::found::{Found, agreeing, is_case, show_damage};
-use crate::list::{CASE, PATCH, word};
+use crate::list::{CASE, Damaged, PATCH, Reader};
+use crate::run::Way;
 use crate::tell::Tell;
+use answers::numbered::Numbered;
 use byte_fields::read::u32_at;
-use streams::part::of_bytes;
 use streams::print::{end_line, number};
 
 // A check: its number and its place are expected.
-fn check(tell: Tell, file: &[u8], case: &[u8]) -> Found {
-    if case.len() != 8 {
-        return Found::Damaged;
-    }
+fn check(tell: Tell, file: &[u8], case: &[u8]) -> Result<bool, Damaged> {
+    let mut reader = Reader::new(case);
+    let number = reader.word()?;
+    let place = reader.word()?;
+    reader.end()?;
     let v = patch_check::check::check(file);
-    if !tell.same(b"number", word(case, 0), answers::check::number_of(v)) {
-        return Found::Differs;
-    }
-    if !tell.same(b"place", word(case, 4), answers::check::place_of(v)) {
-        return Found::Differs;
-    }
-    Found::Agrees
+    Ok(tell.same(b"number", number, v.number()) && tell.same(b"place", place, v.place()))
 }
 
-// A case by its sort.
-fn by_sort(tell: Tell, sort: u8, file: &[u8], case: &[u8]) -> Found {
+// The sorts of a case.
+#[derive(Clone, Copy)]
+enum Sort {
+    Run(Way),
+    Join,
+    Flatten,
+    Check,
+}
+
+impl TryFrom<u8> for Sort {
+    type Error = Damaged;
+
+    fn try_from(sort: u8) -> Result<Sort, Damaged> {
+        match sort {
+            0 => Ok(Sort::Run(Way::Run)),
+            1 => Ok(Sort::Run(Way::Fresh)),
+            2 => Ok(Sort::Join),
+            3 => Ok(Sort::Flatten),
+            4 => Ok(Sort::Check),
+            5 => Ok(Sort::Run(Way::Step)),
+            _ => Err(Damaged),
+        }
+    }
+}
+
+// Whether a case agrees.
+fn replay(tell: Tell, sort: Sort, file: &[u8], case: &[u8]) -> Result<bool, Damaged> {
     match sort {
-        0 => run::replay(tell, sort, file, case),
-        run::FRESH => run::replay(tell, sort, file, case),
-        2 => shape::replay_join(tell, file, case),
-        3 => shape::replay_flatten(tell, file, case),
-        4 => check(tell, file, case),
-        run::STEP => run::replay(tell, sort, file, case),
-        _ => Found::Damaged,
+        Sort::Run(way) => run::replay(tell, way, file, case),
+        Sort::Join => shape::replay_join(tell, file, case),
+        Sort::Flatten => shape::replay_flatten(tell, file, case),
+        Sort::Check => check(tell, file, case),
     }
 }
 
-// Reads the patch, and what is given and expected beside it, and works the case.
-fn work(tell: Tell, sort: u8, file: &mut [u8], case: &mut [u8]) -> Found {
-    if io::read_full(0, file) < file.len() {
-        return Found::Damaged;
+// Reads these bytes whole.
+fn read(bytes: &mut [u8]) -> Result<(), Damaged> {
+    if io::read_full(0, bytes) < bytes.len() {
+        return Err(Damaged);
     }
-    if io::read_full(0, case) < case.len() {
-        return Found::Damaged;
-    }
-    by_sort(tell, sort, file, case)
+    Ok(())
 }
 
-// A case of this sort, with so many bytes of a patch and so many after them.
-fn take(
+// Whether the next case agrees, if there is one: its length, its sort and the length of its patch come first, then the patch, and what is given
+// and expected beside it.
+fn next(
     tell: Tell,
-    sort: u8,
-    bytes: usize,
-    after: usize,
-    file: &mut [u8],
-    case: &mut [u8],
-) -> Found {
-    let n = of_bytes(bytes, file);
-    let m = of_bytes(after, case);
-    work(tell, sort, &mut file[..n], &mut case[..m])
-}
-
-// The next case: its length, its sort and the length of its patch come first.
-fn next(tell: Tell, file: &mut [u8; PATCH], case: &mut [u8; CASE]) -> Found {
+    file: &mut [u8; PATCH],
+    case: &mut [u8; CASE],
+) -> Result<Option<bool>, Damaged> {
     let mut head = [0u8; 9];
     let k = io::read_full(0, &mut head);
     if k == 0 {
-        return Found::End;
+        return Ok(None);
     }
     if k < 9 {
-        return Found::Damaged;
+        return Err(Damaged);
     }
     let size = u32_at(&head, 0);
     let bytes = u32_at(&head, 5);
-    if size < bytes + 5 {
-        return Found::Damaged;
-    }
-    let after = size - (bytes + 5);
-    if PATCH < bytes {
-        return Found::Damaged;
-    }
-    if CASE < after {
-        return Found::Damaged;
-    }
-    take(tell, head[4], bytes, after, file, case)
+    let after = size.checked_sub(bytes + 5).ok_or(Damaged)?;
+    let file = file.get_mut(..bytes).ok_or(Damaged)?;
+    let case = case.get_mut(..after).ok_or(Damaged)?;
+    read(file)?;
+    read(case)?;
+    let agrees = replay(tell, Sort::try_from(head[4])?, file, case)?;
+    Ok(Some(agrees))
+}
+
+// Says where a list is damaged.
+fn show_damage(n: u32) {
+    io::write_all(1, b"damaged");
+    number(n as usize);
+    io::write_all(
+        1,
+        b": this case is cut short, too long or not in the form of a list\n",
+    );
 }
 
 fn show(cases: u32, agree: u32) {
@@ -110,21 +120,24 @@ const CASES: u32 = 1000000000;
 fn main() {
     let mut file = [0u8; PATCH];
     let mut case = [0u8; CASE];
-    let mut n: u32 = 0;
     let mut agree: u32 = 0;
-    while n < CASES {
+    for n in 0..CASES {
         let tell = Tell {
             case: n,
             loud: n - agree < 10,
         };
-        let found = next(tell, &mut file, &mut case);
-        if !is_case(found) {
-            show_damage(found, n);
-            show(n, agree);
-            return;
+        match next(tell, &mut file, &mut case) {
+            Ok(Some(agrees)) => agree += u32::from(agrees),
+            Ok(None) => {
+                show(n, agree);
+                return;
+            }
+            Err(Damaged) => {
+                show_damage(n);
+                show(n, agree);
+                return;
+            }
         }
-        agree += agreeing(found);
-        n += 1;
     }
-    show(n, agree);
+    show(CASES, agree);
 }

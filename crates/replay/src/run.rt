@@ -1,108 +1,182 @@
 // A case that is a run, from a state or fresh, or a step.
-use crate::found::{Found, of_same};
-use crate::list::{
-    CELLS, COUNTS, ENTRIES, INPUTS, LANES, OUTPUTS, PLACES, after, inputs, word, word_on,
-};
-use crate::slices::{expected_at, given_at, lay, lay_table, same_slices};
-use crate::state::{after_machine, machine_at, same_machine};
+use crate::list::{CELLS, COUNTS, Damaged, ENTRIES, INPUTS, LANES, OUTPUTS, PLACES, Reader};
+use crate::slices::{Contents, Six, Slice};
+use crate::state::{machine, same_machine};
 use crate::tell::Tell;
-use answers::run::{Answer, lane_of, number_of, place_of};
+use answers::run::Answer;
 use machine::machine::{Machine, Ran, Stepped};
-use streams::part::of_lanes;
 
-const BUDGET: usize = Machine::BUDGET as usize;
+// What is asked of a machine.
+#[derive(Clone, Copy)]
+pub enum Way {
+    Run,
+    Fresh,
+    Step,
+}
 
-pub const FRESH: u8 = 1;
+// The same with what the case hands in: the machine, and to a fresh run its call mode.
+#[derive(Drop)]
+enum Start {
+    Run(Machine),
+    Fresh(u32),
+    Step(Machine),
+}
 
-pub const STEP: u8 = 5;
-
-// The bytes of an answer before its machine: number, steps, place and lane.
-const ANSWER: usize = 16;
-
-// What is handed a state has its machine before its answer, a fresh run its call mode.
-fn at_answer(case: &[u8], sort: u8, at: usize) -> usize {
-    if sort == FRESH {
-        return after(case, at, 4);
+impl Start {
+    fn read(reader: &mut Reader<'_>, way: Way) -> Result<Start, Damaged> {
+        match way {
+            Way::Run => Ok(Start::Run(machine(reader)?)),
+            Way::Fresh => Ok(Start::Fresh(reader.number()?)),
+            Way::Step => Ok(Start::Step(machine(reader)?)),
+        }
     }
-    after_machine(case, at)
 }
 
-// Where the contents are that are expected beside the answer at a place.
-fn at_contents(case: &[u8], at: usize) -> usize {
-    after_machine(case, after(case, at, ANSWER))
+// What is given.
+#[derive(Drop)]
+struct Given<'a> {
+    budget: u32,
+    inputs: &'a [[u8; 8]],
+    slices: Six<Slice<'a>>,
+    start: Start,
 }
 
-fn same_answer(tell: Tell, case: &[u8], at: usize, r: Ran) -> bool {
-    let answer = r.answer;
-    let m = r.machine;
-    let numbers = m.numbers;
-    tell.same(b"number", word(case, at), number_of(answer))
-        && tell.same(b"steps", word_on(case, at, 4), r.steps as usize)
-        && tell.same(
-            b"place",
-            word_on(case, at, 8),
-            place_of(answer, numbers.position),
-        )
-        && tell.same(b"lane", word_on(case, at, 12), lane_of(answer))
-        && same_machine(tell, case, after(case, at, ANSWER), m)
-}
-
-// The budget of a case, which is at most the machine's.
-fn budget_of(case: &[u8]) -> u32 {
-    let budget = word(case, 0);
-    if BUDGET < budget {
-        return Machine::BUDGET;
+impl<'a> Given<'a> {
+    fn read(reader: &mut Reader<'a>, way: Way) -> Result<Given<'a>, Damaged> {
+        Ok(Given {
+            budget: reader.number()?,
+            inputs: reader.counted()?,
+            slices: Six::read(reader)?,
+            start: Start::read(reader, way)?,
+        })
     }
-    budget as u32
+}
+
+// What is expected: the answer, the machine and the contents of the six slices.
+#[derive(Drop)]
+struct Expected<'a> {
+    number: usize,
+    steps: usize,
+    place: usize,
+    lane: usize,
+    machine: Machine,
+    slices: Six<Contents<'a>>,
+}
+
+impl<'a> Expected<'a> {
+    fn read(reader: &mut Reader<'a>) -> Result<Expected<'a>, Damaged> {
+        Ok(Expected {
+            number: reader.word()?,
+            steps: reader.word()?,
+            place: reader.word()?,
+            lane: reader.word()?,
+            machine: machine(reader)?,
+            slices: Six::read(reader)?,
+        })
+    }
+
+    fn same(&self, tell: Tell, r: &Ran) -> bool {
+        let at = r.machine.numbers.position;
+        tell.same(b"number", self.number, r.answer.number())
+            && tell.same(b"steps", self.steps, r.steps as usize)
+            && tell.same(b"place", self.place, r.answer.place(at))
+            && tell.same(b"lane", self.lane, r.answer.lane())
+            && same_machine(tell, &self.machine, &r.machine)
+    }
+
+    fn same_slices(&self, tell: Tell, lent: &Lent<'_>) -> bool {
+        let slices = self.slices;
+        slices.tape.same(tell, b"cell", lent.tape)
+            && slices.register.same(tell, b"lane", lent.register)
+            && same_table(tell, slices.table, lent.table)
+            && slices.channel.same(tell, b"channel place", lent.channel)
+            && slices.output.same(tell, b"output", lent.output)
+            && slices.tally.same(tell, b"count of op", lent.tally)
+    }
+}
+
+// The table of functions, with zeros after it to the end of its storage.
+fn same_table(tell: Tell, expected: Contents<'_>, came: &[u16]) -> bool {
+    let mut lanes = [0u64; ENTRIES];
+    for (lane, entry) in lanes.iter_mut().zip(came) {
+        *lane = u64::from(*entry);
+    }
+    expected.same(tell, b"table entry", &lanes)
+}
+
+// What a run is lent.
+#[derive(Drop)]
+struct Lent<'s> {
+    register: &'s mut [u64],
+    tape: &'s mut [u64],
+    table: &'s mut [u16],
+    channel: &'s mut [u64],
+    input: &'s [u64],
+    output: &'s mut [u64],
+    tally: &'s mut [u64],
 }
 
 // A step's answer beside how many were made.
 fn of_step(r: Stepped) -> Ran {
-    let answer = r.answer;
-    let machine = r.machine;
-    let steps = match answer {
-        Answer::Went => 1,
-        _ => 0,
-    };
+    let Stepped { answer, machine } = r;
     Ran {
         answer,
-        steps,
+        steps: u32::from(answer == Answer::Went),
         machine,
     }
 }
 
-fn start(
-    sort: u8,
-    case: &[u8],
-    at: usize,
-    file: &[u8],
-    input: &[u64],
-    register: &mut [u64],
-    tape: &mut [u64],
-    table: &mut [u16],
-    channel: &mut [u64],
-    output: &mut [u64],
-    tally: &mut [u64],
-) -> Ran {
-    let budget = budget_of(case);
-    if sort == FRESH {
-        let mode = word(case, at) as u32;
-        return Machine::run_fresh(
-            file, register, tape, table, channel, input, output, tally, budget, mode,
-        );
+impl Lent<'_> {
+    fn start(&mut self, file: &[u8], start: Start, budget: u32) -> Ran {
+        match start {
+            Start::Run(m) => m.run(
+                file,
+                self.register,
+                self.tape,
+                self.table,
+                self.channel,
+                self.input,
+                self.output,
+                self.tally,
+                budget,
+            ),
+            Start::Fresh(mode) => Machine::run_fresh(
+                file,
+                self.register,
+                self.tape,
+                self.table,
+                self.channel,
+                self.input,
+                self.output,
+                self.tally,
+                budget,
+                mode,
+            ),
+            Start::Step(m) => of_step(m.step(
+                file,
+                self.register,
+                self.tape,
+                self.table,
+                self.channel,
+                self.input,
+                self.output,
+                self.tally,
+            )),
+        }
     }
-    let m = machine_at(case, at);
-    if sort == STEP {
-        return of_step(m.step(file, register, tape, table, channel, input, output, tally));
-    }
-    m.run(
-        file, register, tape, table, channel, input, output, tally, budget,
-    )
 }
 
 // Lays its storage out, lends as much of it as the case says, runs, and compares.
-fn same_run(tell: Tell, sort: u8, file: &[u8], case: &[u8]) -> bool {
-    let at = given_at(case);
+pub fn replay(tell: Tell, way: Way, file: &[u8], case: &[u8]) -> Result<bool, Damaged> {
+    let mut reader = Reader::new(case);
+    let Given {
+        budget,
+        inputs,
+        slices,
+        start,
+    } = Given::read(&mut reader, way)?;
+    let expected = Expected::read(&mut reader)?;
+    reader.end()?;
     let mut input = [0u64; INPUTS];
     let mut tape = [0u64; CELLS];
     let mut register = [0u64; LANES];
@@ -110,46 +184,20 @@ fn same_run(tell: Tell, sort: u8, file: &[u8], case: &[u8]) -> bool {
     let mut channel = [0u64; PLACES];
     let mut output = [0u64; OUTPUTS];
     let mut tally = [0u64; COUNTS];
-    inputs(case, 4, &mut input);
-    let given = of_lanes(word(case, 4), &input);
-    let cells = lay(case, at.tape, &mut tape);
-    let lanes = lay(case, at.register, &mut register);
-    let entries = lay_table(case, at.table, &mut table);
-    let ring = lay(case, at.channel, &mut channel);
-    let room = lay(case, at.output, &mut output);
-    let ops = lay(case, at.tally, &mut tally);
-    let r = start(
-        sort,
-        case,
-        at.end,
-        file,
-        &input[..given],
-        &mut register[..lanes],
-        &mut tape[..cells],
-        &mut table[..entries],
-        &mut channel[..ring],
-        &mut output[..room],
-        &mut tally[..ops],
-    );
-    let answer = at_answer(case, sort, at.end);
-    same_answer(tell, case, answer, r)
-        && same_slices(
-            tell,
-            case,
-            at_contents(case, answer),
-            &tape,
-            &register,
-            &table,
-            &channel,
-            &output,
-            &tally,
-        )
-}
-
-pub fn replay(tell: Tell, sort: u8, file: &[u8], case: &[u8]) -> Found {
-    let answer = at_answer(case, sort, given_at(case).end);
-    if expected_at(case, at_contents(case, answer)).end != case.len() {
-        return Found::Damaged;
+    for (value, bytes) in input.iter_mut().zip(inputs) {
+        *value = u64::from_le_bytes(*bytes);
     }
-    of_same(same_run(tell, sort, file, case))
+    let mut lent = Lent {
+        register: slices.register.lay(&mut register, |value| value)?,
+        tape: slices.tape.lay(&mut tape, |value| value)?,
+        table: slices
+            .table
+            .lay(&mut table, |value| (value % 65536) as u16)?,
+        channel: slices.channel.lay(&mut channel, |value| value)?,
+        input: input.get(..inputs.len()).ok_or(Damaged)?,
+        output: slices.output.lay(&mut output, |value| value)?,
+        tally: slices.tally.lay(&mut tally, |value| value)?,
+    };
+    let r = lent.start(file, start, budget);
+    Ok(expected.same(tell, &r) && expected.same_slices(tell, &lent))
 }

@@ -3,14 +3,13 @@
 // and place and count of the ten busiest ops; of a bad file `load`, its number and place alone.
 #![tactic(auto)]
 
-use answers::check::Verdict;
-use answers::run::{number_of, place_of};
+use answers::numbered::Numbered;
 use busy::busiest::{Busy, busiest};
 use machine::machine::Machine;
+use patch_check::check::check;
 use patch_reader::reader::read_patch;
 use std::env::FillError;
 use std::rt::Env;
-use streams::part::of_lanes;
 use streams::print::{end_line, lanes, number};
 
 // What the runner lends beside the machine's own limits, and how many steps it lets a patch make.
@@ -30,14 +29,10 @@ fn show_answer(word: &[u8], n: usize, place: usize) {
 
 // Place and count of each, the busiest first; the word alone if there is none.
 fn show_busy(b: Busy) {
-    let ops = b.ops;
-    let mut i: usize = 0;
     io::write_all(1, b"busy");
-    while i < 10 && i < b.n {
-        let op = ops[i];
+    for op in b.ops.iter().take(b.n) {
         number(op.place);
         number(op.count as usize);
-        i += 1;
     }
     end_line();
 }
@@ -65,9 +60,9 @@ fn run(file: &[u8], mode: u32, tally: &mut [u64]) {
     let answer = r.answer;
     let m = r.machine.numbers;
     io::write_all(1, b"run");
-    number(number_of(answer));
+    number(answer.number());
     number(r.steps as usize);
-    number(place_of(answer, m.position));
+    number(answer.place(m.position));
     end_line();
     io::write_all(1, b"out");
     lanes(&output, 0, m.written);
@@ -76,19 +71,16 @@ fn run(file: &[u8], mode: u32, tally: &mut [u64]) {
 }
 
 fn check_and_run(file: &[u8], mode: u32) {
-    let v = patch_check::check::check(file);
-    if let Verdict::BadFile { number, place } = v {
-        show_answer(b"load", number, place);
-        return;
+    match read_patch(file) {
+        Ok(ops) => {
+            let verdict = check(file);
+            show_answer(b"check", verdict.number(), verdict.place());
+            let mut tally = [0u64; Machine::OPS];
+            let n = ops.min(tally.len());
+            run(file, mode, &mut tally[..n]);
+        }
+        Err(unread) => show_answer(b"load", unread.number, unread.place),
     }
-    show_answer(
-        b"check",
-        answers::check::number_of(v),
-        answers::check::place_of(v),
-    );
-    let mut tally = [0u64; Machine::OPS];
-    let ops = of_lanes(read_patch(file).ops, &tally);
-    run(file, mode, &mut tally[..ops]);
 }
 
 // The one argument that the runner takes.
@@ -103,35 +95,18 @@ fn has_argument(rt: &HostRuntime, n: usize) -> bool {
 // Whether the first argument is that word.
 fn is_by_mark(rt: &HostRuntime) -> bool {
     let mut word = [0u8; 9];
-    if rt.arg(1, &mut word).unwrap_or(0) != 9 {
-        return false;
-    }
-    let mut i: usize = 0;
-    while i < 9 {
-        if word[i] != WORD[i] {
-            return false;
-        }
-        i += 1;
-    }
-    true
+    matches!(rt.arg(1, &mut word), Ok(9)) && word == WORD
 }
 
-// What the arguments ask for: a call mode, or nothing that there is.
-#[derive(Clone, Copy)]
-enum Asked {
-    Mode(u32),
-    Unknown,
-}
-
-// With no argument the Rust's mode, with the word the other.
-fn mode_asked(rt: &HostRuntime) -> Asked {
+// The call mode that the arguments ask for, if they ask for one: with no argument the Rust's mode, with the word the other.
+fn mode_asked(rt: &HostRuntime) -> Option<u32> {
     if !has_argument(rt, 1) {
-        return Asked::Mode(Machine::RUST_TABLE);
+        return Some(Machine::RUST_TABLE);
     }
     if !has_argument(rt, 2) && is_by_mark(rt) {
-        return Asked::Mode(Machine::BY_MARK);
+        return Some(Machine::BY_MARK);
     }
-    Asked::Unknown
+    None
 }
 
 // One byte more than the longest file is read, so that a longer one is answered as such and not read to its end.
@@ -143,8 +118,8 @@ fn read_and_run(mode: u32) {
 
 fn main(rt: HostRuntime) {
     match mode_asked(&rt) {
-        Asked::Mode(mode) => read_and_run(mode),
-        Asked::Unknown => {
+        Some(mode) => read_and_run(mode),
+        None => {
             io::write_all(2, b"runner: it takes no argument but --by-mark\n");
         }
     }

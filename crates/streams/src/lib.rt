@@ -1,5 +1,4 @@
-// What the programs share: how they print, and which parts of their storage they lend.
+// What the programs share: how they print.
 #![tactic(auto)]
 
 pub mod print; // numbers and lists of them
-pub mod part; // the first n of a slice

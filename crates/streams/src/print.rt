@@ -1,4 +1,5 @@
-// What the programs print: a number after a space, as it is or as a lane's integer, and a list of these.
+// What the programs print: a number after a space, as it is or as a lane's integer, and a list of these. They go on where nothing can be written:
+// `io::write_all` answers that, and `print!` would hand each caller an error that it has to let go.
 pub fn number(n: usize) {
     io::write_all(1, b" ");
     io::print_decimal(1, n as u64);
@@ -6,24 +7,19 @@ pub fn number(n: usize) {
 
 // A lane's integer: its digits, after a minus where it is below zero.
 pub fn lane(v: u64) {
-    if v < 0x8000000000000000 {
-        io::write_all(1, b" ");
-        io::print_decimal(1, v);
-    } else {
+    let lane = v.cast_signed();
+    if lane < 0 {
         io::write_all(1, b" -");
-        io::print_decimal(1, (0xffffffffffffffff - v) + 1);
+    } else {
+        io::write_all(1, b" ");
     }
+    io::print_decimal(1, lane.unsigned_abs());
 }
 
 // The values from one place to another, or to their end.
 pub fn lanes(values: &[u64], from: usize, to: usize) {
-    let mut i = from;
-    while i < to {
-        if values.len() <= i {
-            return;
-        }
-        lane(values[i]);
-        i += 1;
+    for &v in values.iter().take(to).skip(from) {
+        lane(v);
     }
 }
 

@@ -6,16 +6,69 @@
 // bytes and bodies that there is room for, and of lanes that the register has room for; the budget by four; and the number of counts by two.
 #![tactic(auto)]
 
-use answers::flatten::Flattened;
-use answers::join::Joined;
-use answers::run::{number_of, place_of};
-use basics::wide::wide_byte;
+use answers::numbered::Numbered;
 use byte_fields::read::{u16_at, u32_at, u64_at};
 use machine::machine::Machine;
-use streams::part::{of_bytes, of_lanes};
 use streams::print::{end_line, lane, lanes, number};
 
-const HEAD: usize = 18;
+// What is done with a case.
+#[derive(Clone, Copy, PartialEq, Eq)]
+enum Work {
+    Run,
+    Join,
+    Flatten,
+    Count,
+}
+
+impl From<u8> for Work {
+    fn from(n: u8) -> Work {
+        match n {
+            1 => Work::Join,
+            2 => Work::Flatten,
+            3 => Work::Count,
+            _ => Work::Run,
+        }
+    }
+}
+
+// The head of a case.
+#[derive(Clone, Copy)]
+struct Head {
+    work: Work,
+    mode: u32,
+    name: usize,
+    patch: usize,
+    inputs: usize,
+    cells: usize,
+    room: usize,
+    lanes: usize,
+    budget: u32,
+    counts: usize,
+}
+
+impl Head {
+    const LENGTH: usize = 18;
+
+    // The next one, if there is one.
+    fn read() -> Option<Head> {
+        let mut head = [0u8; Head::LENGTH];
+        if io::read_full(0, &mut head) < Head::LENGTH {
+            return None;
+        }
+        Some(Head {
+            work: Work::from(head[0] % 16),
+            mode: u32::from(head[0] / 16),
+            name: usize::from(head[1]),
+            patch: u16_at(&head, 2),
+            inputs: u16_at(&head, 4),
+            cells: u16_at(&head, 6),
+            room: u16_at(&head, 8),
+            lanes: u16_at(&head, 10),
+            budget: u32_at(&head, 12) as u32,
+            counts: u16_at(&head, 16),
+        })
+    }
+}
 
 fn read_value() -> u64 {
     let mut bytes = [0u8; 8];
@@ -25,13 +78,8 @@ fn read_value() -> u64 {
 
 // Reads n values, or as many as there is room for.
 fn read_values(values: &mut [u64], n: usize) {
-    let mut i: usize = 0;
-    while i < n {
-        if values.len() <= i {
-            return;
-        }
-        values[i] = read_value();
-        i += 1;
+    for value in values.iter_mut().take(n) {
+        *value = read_value();
     }
 }
 
@@ -43,7 +91,7 @@ fn echo(text: &mut [u8]) {
 
 fn show_name(n: usize) {
     let mut text = [0u8; 255];
-    let k = of_bytes(n, &text);
+    let k = n.min(text.len());
     echo(&mut text[..k]);
     io::write_all(1, b":");
 }
@@ -78,15 +126,15 @@ fn show_counts(total: u64, tally: &[u64; Machine::OPS], n: usize) {
     lanes(tally, 0, n);
 }
 
-fn show_check(file: &[u8]) {
-    let v = patch_check::check::check(file);
-    io::write_all(1, b" check");
-    number(answers::check::number_of(v));
-    number(answers::check::place_of(v));
+// A word, and the number and the place of an answer after it.
+fn show_answer<A: Numbered + Copy>(word: &[u8], answer: A) {
+    io::write_all(1, word);
+    number(answer.number());
+    number(answer.place());
 }
 
-// Reads the input values, and runs the patch in a call mode with the storage that is lent.
-fn show_run(head: &[u8; HEAD], file: &[u8], mode: u32) {
+// Reads the input values, and runs the patch with the storage that is lent.
+fn show_run(head: Head, file: &[u8]) {
     let mut register = [0u64; Machine::LANES];
     let mut tape = [0u64; 4096];
     let mut table = [0u16; Machine::MARKS];
@@ -94,14 +142,12 @@ fn show_run(head: &[u8; HEAD], file: &[u8], mode: u32) {
     let mut input = [0u64; 16];
     let mut output = [0u64; 64];
     let mut tally = [0u64; Machine::OPS];
-    let given = u16_at(head, 4);
-    read_values(&mut input, given);
-    let lent = of_lanes(u16_at(head, 10), &register);
-    let cells = of_lanes(u16_at(head, 6), &tape);
-    let inputs = of_lanes(given, &input);
-    let room = of_lanes(u16_at(head, 8), &output);
-    let ops = of_lanes(u16_at(head, 16), &tally);
-    let budget = u32_at(head, 12);
+    read_values(&mut input, head.inputs);
+    let lent = head.lanes.min(register.len());
+    let cells = head.cells.min(tape.len());
+    let inputs = head.inputs.min(input.len());
+    let room = head.room.min(output.len());
+    let ops = head.counts.min(tally.len());
     let r = Machine::run_fresh(
         file,
         &mut register[..lent],
@@ -111,16 +157,16 @@ fn show_run(head: &[u8; HEAD], file: &[u8], mode: u32) {
         &input[..inputs],
         &mut output[..room],
         &mut tally[..ops],
-        budget as u32,
-        mode,
+        head.budget,
+        head.mode,
     );
     let answer = r.answer;
     let left = r.machine;
     let m = left.numbers;
     io::write_all(1, b" run");
-    number(number_of(answer));
+    number(answer.number());
     number(r.steps as usize);
-    number(place_of(answer, m.position));
+    number(answer.place(m.position));
     show_lane(&register, m.lanes);
     io::write_all(1, b" pointer");
     number(m.pointer);
@@ -128,51 +174,29 @@ fn show_run(head: &[u8; HEAD], file: &[u8], mode: u32) {
     number(m.length);
     show_left(&input, m.taken, inputs);
     show_out(&output, m.written);
-    if head[0] % 16 == 3 {
+    if head.work == Work::Count {
         show_counts(left.total, &tally, ops);
     }
 }
 
-fn show_answer(word: &[u8], n: usize, place: usize) {
-    io::write_all(1, word);
-    number(n);
-    number(place);
-}
-
-fn show_hex(b: u8) {
-    io::print_hex(1, b as u64, 2);
-}
-
 // The n bytes that were written.
-fn show_each(out: &[u8; 64], n: usize) {
-    let mut i: usize = 0;
-    while i < n {
-        if 64 <= i {
-            return;
-        }
-        show_hex(out[i]);
-        i += 1;
-    }
-}
-
 fn show_bytes(out: &[u8; 64], n: usize) {
     io::write_all(1, b" bytes");
     if 0 < n {
         io::write_all(1, b" ");
-        show_each(out, n);
+    }
+    for &byte in out.iter().take(n) {
+        io::print_hex(1, u64::from(byte), 2);
     }
 }
 
-fn show_join(head: &[u8; HEAD], file: &[u8]) {
+fn show_join(head: Head, file: &[u8]) {
     let mut out = [0u8; 64];
-    let room = of_bytes(u16_at(head, 8), &out);
-    match joining::join::join(file, &mut out[..room]) {
-        Joined::BadFile(n, place) => show_answer(b" join", n, place),
-        Joined::NoRoom => show_answer(b" join", 40, 0),
-        Joined::Written(ops, bytes) => {
-            show_answer(b" join", 0, ops);
-            show_bytes(&out, bytes);
-        }
+    let room = head.room.min(out.len());
+    let r = joining::join::join(file, &mut out[..room]);
+    show_answer(b" join", r);
+    if let Ok(joined) = r {
+        show_bytes(&out, joined.bytes);
     }
 }
 
@@ -185,22 +209,17 @@ fn show_body(body: u32, first: u32, count: u32) {
 
 // The number, the first op and the op count of each of n bodies.
 fn show_bodies(numbers: &[u32; 64], firsts: &[u32; 64], counts: &[u32; 64], n: usize) {
-    let mut i: usize = 0;
-    while i < n {
-        if 64 <= i {
-            return;
-        }
-        show_body(numbers[i], firsts[i], counts[i]);
-        i += 1;
+    for ((&body, &first), &count) in numbers.iter().zip(firsts).zip(counts).take(n) {
+        show_body(body, first, count);
     }
 }
 
-fn show_flatten(head: &[u8; HEAD], file: &[u8]) {
+fn show_flatten(head: Head, file: &[u8]) {
     let mut out = [0u8; 64];
     let mut numbers = [0u32; 64];
     let mut firsts = [0u32; 64];
     let mut counts = [0u32; 64];
-    let room = of_bytes(u16_at(head, 8), &out);
+    let room = head.room.min(out.len());
     let r = flattening::numbers::flatten_numbers(
         file,
         &mut out[..room],
@@ -208,53 +227,40 @@ fn show_flatten(head: &[u8; HEAD], file: &[u8]) {
         &mut firsts,
         &mut counts,
     );
-    show_answer(
-        b" flatten",
-        answers::flatten::number_of(r),
-        answers::flatten::place_of(r),
-    );
-    if let Flattened::Written {
-        ops: _,
-        bytes,
-        bodies,
-    } = r
-    {
-        show_bodies(&numbers, &firsts, &counts, bodies);
-        show_bytes(&out, bytes);
+    show_answer(b" flatten", r);
+    if let Ok(flattened) = r {
+        show_bodies(&numbers, &firsts, &counts, flattened.bodies);
+        show_bytes(&out, flattened.bytes);
     }
 }
 
 // Reads the patch, and works it.
-fn work(head: &[u8; HEAD], file: &mut [u8]) {
+fn show_case(head: Head, file: &mut [u8]) {
     io::read_full(0, file);
-    match head[0] % 16 {
-        1 => show_join(head, file),
-        2 => show_flatten(head, file),
-        _ => {
-            show_check(file);
-            show_run(head, file, (wide_byte(head[0]) / 16) as u32);
+    match head.work {
+        Work::Join => show_join(head, file),
+        Work::Flatten => show_flatten(head, file),
+        Work::Run | Work::Count => {
+            show_answer(b" check", patch_check::check::check(file));
+            show_run(head, file);
         }
     }
     end_line();
 }
 
-// One case, and whether there was one.
-fn case() -> bool {
-    let mut head = [0u8; HEAD];
-    if io::read_full(0, &mut head) < HEAD {
-        return false;
-    }
-    show_name(wide_byte(head[1]));
+fn case(head: Head) {
+    show_name(head.name);
     let mut file = [0u8; Machine::FILE];
-    let n = of_bytes(u16_at(&head, 2), &file);
-    work(&head, &mut file[..n]);
-    true
+    let n = head.patch.min(file.len());
+    show_case(head, &mut file[..n]);
 }
 
-// A proved loop has to end, and nothing says that the cases do: so the turns are counted down.
+// A proved loop has to end, and nothing says that the cases do: so there is a bound on the turns.
 fn main() {
-    let mut turns: u32 = 100000;
-    while turns > 0 && case() {
-        turns -= 1;
+    for _ in 0..100000 {
+        match Head::read() {
+            Some(head) => case(head),
+            None => return,
+        }
     }
 }

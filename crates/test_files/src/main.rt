@@ -7,11 +7,13 @@
 
 ghost use Rattle.std.specs.Prelude.{◌≡◌, ◌+◌, ◌<◌, ◌≤◌, length};
 
+use patch_reader::reader::read_patch;
+
 // Two bytes as a length.
 fn size(low: u8, high: u8) -> usize
     ensures { result < 65536 }
 {
-    basics::wide::wide_byte(low) + 256 * basics::wide::wide_byte(high)
+    usize::from(u16::from_le_bytes([low, high]))
 }
 
 // Reads n bytes to the place `at`, and answers the place after them.
@@ -33,31 +35,33 @@ fn again(file: &mut [u8], at: usize, back: usize, n: usize) -> usize
         return at;
     }
     let to = at + n;
-    let mut i = at;
-    while i < to {
+    for i in at..to {
         file[i] = file[i - back];
-        i += 1;
     }
-    i
+    to
 }
 
 // Prints the answer of the file of the first n bytes.
 fn show(file: &[u8], n: usize)
     requires { n ≤ length file.now }
 {
-    let r = patch_reader::reader::read_patch(&file[..n]);
-    io::print_decimal(1, r.number as u64);
+    let (number, place, ops) = match read_patch(&file[..n]) {
+        Ok(ops) => (0, ops, ops),
+        Err(unread) => (unread.number, unread.place, unread.ops),
+    };
+    io::print_decimal(1, number as u64);
     io::write_all(1, b" ");
-    io::print_decimal(1, r.place as u64);
+    io::print_decimal(1, place as u64);
     io::write_all(1, b" ");
-    io::print_decimal(1, r.ops as u64);
+    io::print_decimal(1, ops as u64);
     io::write_all(1, b"\n");
 }
 
-// Replays one file of the list, and answers whether there was one. Three lengths make at most 196,605 bytes.
-fn replay(file: &mut [u8]) -> bool
-    requires { length file.old ≡ 196608 }
-{
+// Room for a file of the list, of which three lengths make at most 196,605 bytes.
+const ROOM: usize = 196608;
+
+// Replays one file of the list, and answers whether there was one.
+fn replay(file: &mut [u8; ROOM]) -> bool {
     let mut head = [0u8; 8];
     if io::read_full(0, &mut head) < 8 {
         return false;
@@ -69,11 +73,12 @@ fn replay(file: &mut [u8]) -> bool
     true
 }
 
-// A proved loop has to end, and nothing says that the list does: so the turns are counted down.
+// A proved loop has to end, and nothing says that the list does: so there is a bound on the turns.
 fn main() {
-    let mut file = [0u8; 196608];
-    let mut turns: u32 = 100000;
-    while turns > 0 && replay(&mut file) {
-        turns -= 1;
+    let mut file = [0u8; ROOM];
+    for _ in 0..100000 {
+        if !replay(&mut file) {
+            return;
+        }
     }
 }

@@ -6,7 +6,8 @@ mod vectors; // vectors.rt: the kinds and the patterns
 
 use lanes::lane::{CellOp, LaneOp, cell_rule, lane_rule};
 
-// What the op of a kind gives of a lane and the cell beside it. The ops that work a lane alone do not look at the cell.
+// What the op of a kind gives of a lane and the cell beside it. The ops that work a lane alone do not look at the cell. A kind is the number of the
+// patch format here, as make.py has it and as it is printed.
 fn op(kind: u64, a: u64, b: u64) -> u64 {
     match kind {
         15 => cell_rule(CellOp::Index, a, b),
@@ -55,29 +56,18 @@ fn row(kind: u64, a: u64, cells: &[u64]) {
     io::print_decimal(1, kind);
     show(a);
     io::write_all(1, b":");
-    let mut i = 0;
-    while i < cells.len() {
-        show(op(kind, a, cells[i]));
-        i += 1;
+    for &cell in cells {
+        show(op(kind, a, cell));
     }
     io::write_all(1, b"\n");
 }
 
-// A line for each lane.
-fn rows(kind: u64, lanes: &[u64], cells: &[u64]) {
-    let mut i = 0;
-    while i < lanes.len() {
-        row(kind, lanes[i], cells);
-        i += 1;
-    }
-}
-
-// The lines of each op.
+// A line for each lane, of each op.
 fn each(kinds: &[u64], lanes: &[u64], cells: &[u64]) {
-    let mut i = 0;
-    while i < kinds.len() {
-        rows(kinds[i], lanes, cells);
-        i += 1;
+    for &kind in kinds {
+        for &a in lanes {
+            row(kind, a, cells);
+        }
     }
 }
 

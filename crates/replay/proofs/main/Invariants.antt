@@ -1,9 +1,6 @@
--- `replay::main` is safe and ends: the measure is the cases that may still come. Assumes nothing.
-use Prim.Native.Nat.{◌-◌, ◌≤◌}
+-- `replay::main` is safe: no more cases agree than there were. Assumes nothing.
+use Rattle.std.proofs.Common.{◌≤◌}
 use Rattle.replay.proofs.main.Given as goal
 
 abbrev pub invariant-loop-n : goal.invariant-loop-n
-invariant-loop-n l = (l.agree ≤ l.n) × (l.n ≤ 1000000000)
-
-abbrev pub decreases-loop-n : goal.decreases-loop-n
-decreases-loop-n l = 1000000000 - l.n
+invariant-loop-n l = l.agree ≤ l.n

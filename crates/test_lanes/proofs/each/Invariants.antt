@@ -1,6 +1,0 @@
--- `each` ends: the measure is what is left of the slice. Assumes nothing.
-use Rattle.std.proofs.Common.{◌-◌, length}
-use Rattle.test_lanes.proofs.each.Given as goal
-
-abbrev pub decreases-loop-i : goal.decreases-loop-i
-decreases-loop-i l = length l.kinds - l.i
