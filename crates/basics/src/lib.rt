@@ -1,4 +1,2 @@
-// What any crate may use: a small number as a place in a list, the choice of specs/ and the general laws of proofs/.
+// What any crate may use: the limits and the choice of specs/, and the general laws of proofs/, with no code.
 #![tactic(auto)]
-
-pub mod wide; // one widening for each width
