@@ -50,7 +50,7 @@ impl PartialOrd for Op {
 // fields, and the memory is fixed.
 #[derive(Drop)]
 pub struct Busy {
-    pub ops: [Op; 10],
+    pub ops: [Op; BUSIEST],
     pub n: usize,
 }
 
@@ -91,7 +91,7 @@ pub fn busiest(counts: &[u64]) -> Busy
 {
     let none = Op { place: 0, count: 0 };
     let mut b = Busy {
-        ops: [none; 10],
+        ops: [none; BUSIEST],
         n: 0,
     };
     for i in (0..counts.len()).rev() {

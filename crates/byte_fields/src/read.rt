@@ -3,6 +3,7 @@ ghost use Rattle.std.specs.Prelude.{◌≡◌, ◌+◌, ◌*◌, ◌<◌, ◌≤
 ghost use Rattle.byte_fields.specs.Bytes.{u16_at, u32_at, u64_at, values_at};
 ghost use Rattle.byte_fields.specs.Storage.{fill};
 
+// A function a width: each names the library's method of its width in a line. One over a const width would be a loop in its place, and no plainer.
 pub fn u16_at(bytes: &[u8], at: usize) -> usize
     requires { at + 2 ≤ length bytes.now }
     ensures { (result ≡ u16_at bytes.now at) × (result < 65536) }

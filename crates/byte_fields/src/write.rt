@@ -11,6 +11,7 @@ pub fn copy_bytes(out: &mut [u8], at: usize, bytes: &[u8], from: usize, n: usize
     out[at..at + n].copy_from_slice(&bytes[from..from + n]);
 }
 
+// A function a width, since the library's `to_le_bytes` is one for each type.
 pub fn put_u16(out: &mut [u8], at: usize, n: usize)
     requires { at + 2 ≤ length out.old }
     ensures { out.new ≡ placed out.old at (le16 n) }

@@ -56,7 +56,7 @@ fn in_place(h: Numbers, ops: usize, inputs: usize, outputs: usize) -> bool
     h.position <= ops && h.taken <= inputs && h.written <= outputs
 }
 
-// The first n saved calls are below the op count.
+// The first n saved calls are below the op count. This and the next are a line each, and what they share is the library's `all`.
 fn calls_below(calls: &[u16; Numbers::CALLS], n: usize, ops: usize) -> bool
     requires { n ≤ depth }
     ensures { result ≡ calls_below calls.now n ops }
