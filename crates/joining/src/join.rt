@@ -28,6 +28,7 @@ pub fn join(bytes: &[u8], out: &mut [u8]) -> Result<Joined, JoinError>
     let mut read = Read::blank();
     let ops = match load(bytes, &mut read) {
         Ok(ops) => ops,
+        // both types are of crates below, so no From can stand here
         Err(unread) => {
             return Err(JoinError::BadFile {
                 number: unread.number,
