@@ -25,9 +25,12 @@ use Rattle.joining.specs.declared.entry.Entry.{Entry}
 use Rattle.joining.specs.declared.stack.Stack.{Stack}
 use Rattle.joining.specs.Stack.{stack, top_down, after, op_of, file, Within}
 use Rattle.ops.specs.Syntax.{Op}
-use Rattle.answers.specs.Join.{written}
+use Rattle.answers.specs.Join as answers
+use Rattle.answers.specs.Join.{Joining, written}
 use Rattle.answers.specs.declared.join.JoinError.TheVariants.{BadFile, NoRoom}
 use Rattle.std.specs.Prelude.{Err}
+use Rattle.std.proofs.lemmas.Result.{err_from_is_err_and}
+use Rattle.std.specs.Result.{IsErrAnd}
 use Rattle.joining.proofs.StackIsOps.{joined_seen}
 use Rattle.joining.proofs.Sizes.{join_shorter}
 
@@ -50,10 +53,13 @@ module _ (f : Item → ℕ) (s old new : List ℕ) (e : new ≡ fill (map f (pat
 
 -- ---- a file that is read, and refused or not
 
-pub refused : (s : List ℕ) (u : Unread) → Err u ≡ read_of (patch_of s) → (out : List ℕ) → outcome (Err (BadFile u.number u.place)) out ≡ join_of s out
+pub refused : (s : List ℕ) (u : Unread) → Err u ≡ read_of (patch_of s) → (v : Joining) → IsErrAnd v (λ e. e ≡ answers.bad_file u)
+    → (out : List ℕ) → outcome v out ≡ join_of s out
 unfolding join_of
-refused s u e out =
-    ap₂ (λ (a b : ℕ). outcome (Err (BadFile a b)) out) (bad_number s u e) (bad_place s u e)
+refused s u e v h out =
+    let w = err_from_is_err_and v h in
+    ap (λ (a : Joining). outcome a out) (w.1 ∙ ap Err w.2)
+    ∙ ap₂ (λ (a b : ℕ). outcome (Err (BadFile a b)) out) (bad_number s u e) (bad_place s u e)
     ∙ sym (ap (λ x. joined_as x s out) (refused_are s (bad_file s u e)))
 
 pub holds : (s : List ℕ) (n : ℕ) → n ≡ length (patch_of s).items → (k₀ c₀ p₀ k c p : List ℕ)

@@ -26,15 +26,7 @@ pub fn join(bytes: &[u8], out: &mut [u8]) -> Result<Joined, JoinError>
     ensures { outcome result out.new ≡ join_of bytes.now out.old }
 {
     let mut read = Read::blank();
-    let ops = match load(bytes, &mut read) {
-        Ok(ops) => ops,
-        Err(unread) => {
-            return Err(JoinError::BadFile {
-                number: unread.number,
-                place: unread.place,
-            });
-        }
-    };
+    let ops = load(bytes, &mut read)?;
     if out.len() < bytes.len() {
         return Err(JoinError::NoRoom);
     }

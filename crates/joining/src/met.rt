@@ -7,8 +7,8 @@ use crate::entry::Seen;
 use kind_table::row;
 use lanes::lane::{CellOp, LaneOp, cell_rule, lane_rule};
 
-// The new one is pushed, or left out; the last one is taken off, and the new one
-// is pushed again, a set of this value is, or the last one is after the new one; or a move by this value stands for both.
+// The new one is pushed, or left out; the last one is taken off, and the new one is pushed again, a set of this value is, or the last one
+// is after the new one; or a move by this value stands for both.
 #[derive(Clone, Copy)]
 pub enum Met {
     Push,

@@ -7,7 +7,7 @@ use crate::entry::Entry;
 use byte_fields::read::u64_at;
 use patch_reader::reader::Read;
 
-// Its bytes, and the columns of its ops.
+// Its bytes, and its ops: the first entries of the columns, whose memory is fixed.
 #[derive(Clone, Copy)]
 pub struct Source<'a> {
     pub bytes: &'a [u8],

@@ -7,7 +7,7 @@ use crate::met::{Met, meets, total};
 use kind_table::row;
 use patch_reader::reader::Read;
 
-// The ops that are left: the first n entries, the last one on top.
+// The ops that are left: the first n entries, the last one on top. Memory is fixed, so the array has its count beside it.
 #[derive(Drop)]
 pub struct Stack {
     pub entries: [Entry; Read::OPS],
