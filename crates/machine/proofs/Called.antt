@@ -6,7 +6,7 @@ use Prim.Native.Nat.{ℕ, ◌+◌, ◌-◌, ◌≤◌}
 use native.Mathlib.Omega.{arith}
 use lib.ListN.{length, take, drop, replicate, length-map}
 use borrow.Author.Tests.{eq-eqb, ne_eqb, le-leb, not-true, not-false}
-use Rattle.std.proofs.Common.{Result, Ok, Err}
+use Rattle.std.proofs.Common.{Ok, Err}
 use Rattle.basics.specs.Limits.{most_ops, most_marks}
 use Rattle.basics.proofs.Tests.{and_left, and_right}
 use Rattle.byte_fields.specs.Storage.{fill}

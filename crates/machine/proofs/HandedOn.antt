@@ -1,5 +1,5 @@
 -- A patch that was handed on is run as it is read: its columns are those of its bytes. Assumes nothing.
-use mathlib.Core.Path.{◌≡◌, ◌∙◌, refl, ap, sym, subst}
+use mathlib.Core.Path.{◌≡◌, ◌∙◌, refl, sym}
 use mathlib.Core.List.{List, map}
 use Prim.Native.Nat.{ℕ, ◌+◌, ◌-◌, ◌≤◌}
 use native.Mathlib.Omega.{arith}

@@ -37,7 +37,7 @@ use Rattle.bridge.proofs.Steps.{step_is}
 use Rattle.bridge.proofs.Real.{Real, step_real}
 use Rattle.bridge.proofs.Real.Real.{goes, stops}
 use Rattle.bridge.proofs.Runs.{step_fits, standing_fits}
-use Rattle.machine_run.specs.Ready.{ReadyToRun, ReadyToCount, CanRaise, over_of, ended_by, made_by, counted_by}
+use Rattle.machine_run.specs.Ready.{ReadyToRun, CanRaise, over_of, ended_by, made_by, counted_by}
 
 over_halted : (p : Numbers) (n : ℕ) → p.halted ≡ true → over_of p n ≡ true
 unfolding over_of
