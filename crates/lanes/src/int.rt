@@ -9,18 +9,14 @@ pub const HALF: u64 = 0x8000_0000_0000_0000;
 pub fn magnitude(a: u64) -> u64
     ensures { result ≡ unsigned_abs (signed a) }
 {
-    if a < HALF {
-        a
-    } else {
-        0xFFFF_FFFF_FFFF_FFFF - a + 1
-    }
+    a.cast_signed().unsigned_abs()
 }
 
 // The pattern of m, or of -m.
 pub fn with_sign(negative: bool, m: u64) -> u64
     ensures { result ≡ wrap (signed_by negative m) }
 {
-    if negative { 0u64.wrapping_sub(m) } else { m }
+    if negative { m.wrapping_neg() } else { m }
 }
 
 // The pattern of m, with the sign's bit of a: taken from 0 that bit is no digit or all of them, and -m is m - 1 with every digit changed. So no
@@ -90,11 +86,7 @@ pub fn int_shr(a: u64, b: u64) -> u64
 pub fn int_sar(a: u64, b: u64) -> u64
     ensures { result ≡ int_sar a b }
 {
-    if a < HALF {
-        a >> (b % 64)
-    } else {
-        0xFFFF_FFFF_FFFF_FFFF - ((0xFFFF_FFFF_FFFF_FFFF - a) >> (b % 64))
-    }
+    (a.cast_signed() >> (b % 64)).cast_unsigned()
 }
 
 pub fn int_add(a: u64, b: u64) -> u64
@@ -138,7 +130,7 @@ pub fn int_rem(a: u64, b: u64) -> u64
 pub fn int_neg(a: u64) -> u64
     ensures { result ≡ int_neg a }
 {
-    0u64.wrapping_sub(a)
+    a.wrapping_neg()
 }
 
 pub fn bool_and(a: u64, b: u64) -> u64

@@ -3,7 +3,6 @@
 ghost use Rattle.std.specs.Prelude.{◌≡◌, ◌*◌, ◌%◌, ◌^◌, ◌<◌, ◌≤◌};
 ghost use Rattle.lanes.specs.Steps.{infinity, digits, places, steps};
 
-// The pattern of the least float with all its digits, and how many patterns share a place.
 pub const LOW: u64 = 0x10_0000_0000_0000;
 
 // How many digits a number below LOW doubled has room for in front.
