@@ -14,7 +14,9 @@ use testing_device::device::Peeked;
 fn has_room(register: &[u64], table: &[u16], channel: &[u64]) -> bool
     ensures { result ≡ has_room register.now table.now channel.now }
 {
-    Record::LANES <= register.len() && Read::MARKS <= table.len() && Peeked::CHANNEL <= channel.len()
+    Record::LANES <= register.len()
+        && Read::MARKS <= table.len()
+        && Peeked::CHANNEL <= channel.len()
 }
 
 // What a fresh run asks: a known call mode, and room.
