@@ -46,6 +46,10 @@ pub zip_first : (f : ℕ → ℕ → ℕ) (r c : List ℕ) (v : ℕ) → v ≡ f
 unfolding zip_to
 zip_first f r c v e h k = zip_again f 0 r c r v refl e h k
 
+pub map_first : (f : ℕ → ℕ) (r : List ℕ) (v : ℕ) → v ≡ f (get_or r 0 0) → 1 ≤ length r → set r 0 v ≡ map_to f 1 r
+unfolding map_to
+map_first f r v e h = map_again f 0 r r v refl e h
+
 -- a rule over a list of the first n lanes, with the others behind them
 pub map_part : (f : ℕ → ℕ) (n i : ℕ) (r : List ℕ) → n ≤ length r → length (take n r) ≤ i → map_to f i (take n r) ++ drop n r ≡ map_to f n r
 unfolding map_to

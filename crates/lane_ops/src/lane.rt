@@ -1,5 +1,5 @@
 // The cell ops and the lane-only ops. Each contract is over any numbers p of a machine, with those that the op is told among them. Where one lane is
-// asked for, its count is a constant, so that the compiler makes no loop of it. What an op answers is one number, as a step's is.
+// asked for, no loop is made ready. What an op answers is one number, as a step's is: it stays in a register through the run.
 ghost use Rattle.std.specs.Prelude.{◌≡◌, ◌+◌, ◌≤◌, ◌<◌, length};
 ghost use Rattle.basics.specs.Limits as limit;
 ghost use Rattle.lanes.specs.Lane.{cell_rule, lane_rule};
@@ -52,7 +52,7 @@ fn cell<F: Fn(u64, u64) -> u64>(
         if r != DONE {
             return r;
         }
-        lane_loops::loops::zip_lanes(rule, register, &tape[at..], 1);
+        lane_loops::loops::zip_one(rule, register, &tape[at..]);
         return DONE;
     }
     if n == 0 {
@@ -88,7 +88,7 @@ fn alone<F: Fn(u64) -> u64>(rule: F, n: usize, register: &mut [u64]) -> u32
     ensures { (o : LaneOp) → ComputesAlone (F.post rule) (lane_rule o) → (p : Numbers) → one_list (onward result p) register.new ≡ alone_of o n p register.old }
 {
     if n == 1 {
-        lane_loops::loops::map_lanes(rule, register, 1);
+        lane_loops::loops::map_one(rule, register);
         return DONE;
     }
     lane_loops::loops::map_lanes(rule, register, n);

@@ -22,7 +22,7 @@ unfolding cell_of left pick
 returns-then-n-eq1 g c =
     λ o k p.
     let w = passed _ _ _ _ c.reached-r.ensures.value c.if-r-ne-DONE.false refl in
-    simp (c.if-n-eq1.true, w.0, w.1, c.zip_lanes.ensures (cell_rule o) k, rest_part)
+    simp (c.if-n-eq1.true, w.0, w.1, c.zip_one.ensures (cell_rule o) k, rest_part)
 
 pub returns-then-n-eq0 : goal.returns-then-n-eq0
 unfolding cell_of left pick
@@ -41,4 +41,4 @@ returns g c =
     λ o k p.
     let z = ne_eqb _ _ c.if-n-eq0.false in
     let w = passed _ _ _ _ c.reached-r-2.ensures.value c.if-r-ne-DONE-2.false z in
-    simp (z, w.0, w.1, c.zip_lanes-2.ensures (cell_rule o) k, rest_part)
+    simp (z, w.0, w.1, c.zip_lanes.ensures (cell_rule o) k, rest_part)
