@@ -92,7 +92,7 @@ fn table_names(table: &[u16], n: usize, rows: &[u8]) -> bool
     true
 }
 
-// A well-formed state of the patch whose ops have these rows.
+// A well-formed state of the patch whose ops have these rows; the slices are lent one by one, as to a run.
 #[tactic(auto, unfolding(crate::specs::Formed::is_formed))]
 pub fn is_formed(
     h: Numbers,
