@@ -80,7 +80,7 @@ def main():
         found.append((point, what, where))
 
     lines(1, "enums of the code's own", r"^\s*(pub(\(crate\))? )?enum ")
-    lines(1, "constants that number kinds, modes, answers or refusals", r"^\s*(pub )?const [A-Z_]+: (u8|u32) = (0|[1-9][0-9]?|0x[0-9a-f]{1,2});")
+    lines(1, "constants that number kinds, modes, answers or refusals", r"^\s*(pub )?const (?!ROOM)[A-Z_]+: (u8|u32) = (0|[1-9][0-9]?|0x[0-9a-f]{1,2});")
     lines(1, "sentinels for no place", r"const (NOWHERE|BEYOND)\b")
     flags, casts, wide, twins = [], [], [], {}
     for n, t in code:
@@ -99,7 +99,7 @@ def main():
     lines(3, "loops by while or loop", r"^\s*(let .*= )?('\w+: )?(while |loop \{)")
     lines(3, "loops by for", r"^\s*('\w+: )?for .* in ")
     found.append((4, "functions that only cast", casts))
-    lines(4, "types without PartialEq", r"derive\((?!.*PartialEq)")
+    lines(4, "lines that print by hand", r"io::(write_all|print_decimal|print_hex)\(")
     found.append((5, "functions of seven parameters or more", wide))
     lines(5, "clauses on the length of an array", r"length \w+\.(old|now|new) ≡ (most_ops|most_marks|most_bodies|limit\.depth|depth|[0-9]+)\b")
     lines(6, "elements read or 0 by hand", r"\.len\(\) <= (at|k|i) \{")

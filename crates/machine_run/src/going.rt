@@ -71,6 +71,8 @@ pub fn go(
     ensures run { ran result.answer result.steps (held result.numbers calls.new refs.new register.new tape.new table.new channel.new output.new) ≡ run_of budget 0 (code_in code.now) input.now (held numbers calls.old refs.old register.old tape.old table.old channel.old output.old) }
     ensures counts { tally.new ≡ run_counts_of budget (code_in code.now) input.now (held numbers calls.old refs.old register.old tape.old table.old channel.old output.old) tally.old }
 {
+    // its own copy of the columns' places, so that the loop has them at hand
+    let columns = *code;
     let mut h = numbers;
     if h.halted {
         return Ended {
@@ -81,14 +83,14 @@ pub fn go(
     }
     let mut left = budget;
     loop {
-        if code.rows.len() <= h.position {
+        if columns.rows.len() <= h.position {
             return Ended {
                 answer: Answer::Finished,
                 steps: budget - left,
                 numbers: h,
             };
         }
-        if code.rows[h.position] == row::COMMENT {
+        if columns.rows[h.position] == row::COMMENT {
             h.position += 1;
         } else {
             if left == 0 {
@@ -100,7 +102,7 @@ pub fn go(
             }
             let at = h.position;
             let a = step(
-                &mut h, code, calls, refs, register, tape, table, channel, input, output,
+                &mut h, &columns, calls, refs, register, tape, table, channel, input, output,
             );
             raise_made(tally, at, a);
             left -= made_by(a);

@@ -7,23 +7,23 @@ use Rattle.machine_run.proofs.going.go.Goals as goal
 pub returns-then-h : goal.returns-then-h
 returns-then-h c = record { run = sym (run_halted _ _ _ _ _ c.if-h.true); counts = sym (counts_halted _ _ _ _ _ c.if-h.true) }
 
-pub returns-then-code-h : goal.returns-then-code-h
-returns-then-code-h c =
+pub returns-then-columns-h : goal.returns-then-columns-h
+returns-then-columns-h c =
     let i = c.loop-h.invariant in
-    record { run = at_end i.runs i.halted c.if-code-h.true; counts = counts_at_end i.counts i.halted c.if-code-h.true }
+    record { run = at_end i.runs i.halted c.if-columns-h.true; counts = counts_at_end i.counts i.halted c.if-columns-h.true }
 
-pub loop-h-preserved-then-code-h-eq-COMMENT : goal.loop-h-preserved-then-code-h-eq-COMMENT
-loop-h-preserved-then-code-h-eq-COMMENT c =
+pub loop-h-preserved-then-columns-h-eq-COMMENT : goal.loop-h-preserved-then-columns-h-eq-COMMENT
+loop-h-preserved-then-columns-h-eq-COMMENT c =
     let i = c.loop-h.invariant in
-    let e = c.if-code-h.false in
-    let z = c.if-code-h-eq-COMMENT.true in
+    let e = c.if-columns-h.false in
+    let z = c.if-columns-h-eq-COMMENT.true in
     record { runs = passing i.runs i.halted e z; counts = counts_passing i.counts i.halted e z; halted = i.halted }
 
 pub returns-then-left-eq0 : goal.returns-then-left-eq0
 returns-then-left-eq0 c =
     let i = c.loop-h.invariant in
-    let e = c.if-code-h.false in
-    let n = c.if-code-h-eq-COMMENT.false in
+    let e = c.if-columns-h.false in
+    let n = c.if-columns-h-eq-COMMENT.false in
     record {
       run = all_spent (at_op i.runs i.halted e n) (over_before _ _ i.halted e) c.if-left-eq0.true;
       counts = counts_spent i.counts i.halted e n c.if-left-eq0.true;
@@ -32,13 +32,13 @@ returns-then-left-eq0 c =
 pub step-a-requires : goal.step-a-requires
 step-a-requires c =
     let i = c.loop-h.invariant in
-    let k = step_asks _ _ _ _ i.runs.ready (over_before _ _ i.halted c.if-code-h.false) in
+    let k = step_asks _ _ _ _ i.runs.ready (over_before _ _ i.halted c.if-columns-h.false) in
     record { can_step = k.0; payloads = k.1; stored = k.2 }
 
 pub raise_made-requires : goal.raise_made-requires
 raise_made-requires c =
     let i = c.loop-h.invariant in
-    can_raise i.counts i.halted c.if-code-h.false c.if-code-h-eq-COMMENT.false c.if-left-eq0.false
+    can_raise i.counts i.halted c.if-columns-h.false c.if-columns-h-eq-COMMENT.false c.if-left-eq0.false
 
 pub overflow_sub-left : goal.overflow_sub-left
 overflow_sub-left c = omega (arith, c.made_by-left.ensures, made_few c.step-a.result)
@@ -46,8 +46,8 @@ overflow_sub-left c = omega (arith, c.made_by-left.ensures, made_few c.step-a.re
 pub returns-then-a-ne-DONE : goal.returns-then-a-ne-DONE
 returns-then-a-ne-DONE c =
     let i = c.loop-h.invariant in
-    let e = c.if-code-h.false in
-    let n = c.if-code-h-eq-COMMENT.false in
+    let e = c.if-columns-h.false in
+    let n = c.if-columns-h-eq-COMMENT.false in
     let d = at_op i.runs i.halted e n in
     let o = over_before _ _ i.halted e in
     let s = c.step-a.ensures in
@@ -63,8 +63,8 @@ loop-h-smaller c = rw (made_on _ c.if-a-ne-DONE.false c.made_by-left.ensures) (f
 pub loop-h-preserved : goal.loop-h-preserved
 loop-h-preserved c =
     let i = c.loop-h.invariant in
-    let e = c.if-code-h.false in
-    let n = c.if-code-h-eq-COMMENT.false in
+    let e = c.if-columns-h.false in
+    let n = c.if-columns-h-eq-COMMENT.false in
     let z = c.if-a-ne-DONE.false in
     let w = as_answered (went _ _ z) c.step-a.ensures.stepped in
     let one = made_on _ z c.made_by-left.ensures in
