@@ -16,6 +16,7 @@ pub enum CheckError {
     NeverClosed { op: usize },
 }
 
+// Each call that reads a file has an error of its own, and so its own way from the reader's.
 impl From<Unread> for CheckError {
     ghost from_gives = { λ unread error. error ≡ bad_file unread };
 

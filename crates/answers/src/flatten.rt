@@ -56,7 +56,7 @@ impl Numbered for Result<Flattened, FlattenError> {
     }
 }
 
-// The bytes and the entries that were written; none where flattening is refused.
+// The bytes and the entries that were written; none where flattening is refused. A field each, by a match of its own.
 pub fn bytes_of(answer: Result<Flattened, FlattenError>) -> usize
     ensures { result ≡ bytes_of answer }
 {

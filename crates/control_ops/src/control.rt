@@ -74,6 +74,7 @@ fn stands<'a>(mode: u32, j: usize, n: usize, table: &'a [u16], marks: &'a [u16])
     table[j] == meant[j]
 }
 
+// Each number and slice that it may change is lent by itself, so that its contract holds over any numbers p of a machine.
 pub fn call(
     at: usize,
     mode: u32,

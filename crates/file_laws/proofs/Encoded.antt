@@ -41,6 +41,7 @@ control_known : (c : Control) → Known (control c)
 unfolding index_of kind_at row_at rows mark_of
 control_known c = grind arith
 
+-- twenty ops of five parts are more splits than a tactic makes
 cell_known : (k : CellOp) (n : ℕ) → Known (plain (cell k n))
 unfolding index_of kind_at row_at rows mark_of
 cell_known Index n = (refl, refl, refl, refl, λ s p m. refl)

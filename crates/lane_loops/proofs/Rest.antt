@@ -1,11 +1,7 @@
 -- The rows that no arm names: each is the last op of its kind. Assumes nothing.
-use mathlib.Core.Path.{◌≡◌, refl}
+use mathlib.Core.Path.{◌≡◌}
 use mathlib.Core.List.{List, [], ◌∷◌}
 use Prim.Native.Nat.{ℕ}
-use borrow.Author.Tests.{ne_eqb}
-use Rattle.lanes.specs.declared.lane.CellOp.TheVariants.{FloatRem}
-use Rattle.lanes.specs.declared.lane.LaneOp.TheVariants.{FloatIsNonNegative}
-use Rattle.lane_loops.specs.Rows.{cell_row, lane_row}
 
 -- k is none of these, as a match says it of its last arm: the last of the other arms comes first
 abbrev pub Past : ℕ → List ℕ → Type 0

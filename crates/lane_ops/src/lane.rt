@@ -1,5 +1,5 @@
 // The cell ops and the lane-only ops. Each contract is over any numbers p of a machine, with those that the op is told among them. Where one lane is
-// asked for, no loop is made ready.
+// asked for, no loop is made ready. What an op answers is one number, as a step's is: it stays in a register through the run.
 ghost use Rattle.std.specs.Prelude.{◌≡◌, ◌+◌, ◌≤◌, ◌<◌, length};
 ghost use Rattle.basics.specs.Limits as limit;
 ghost use Rattle.lanes.specs.Lane.{cell_rule, lane_rule};
@@ -7,6 +7,7 @@ ghost use Rattle.lanes.specs.declared.lane.CellOp.{CellOp};
 ghost use Rattle.lanes.specs.declared.lane.LaneOp.{LaneOp};
 ghost use Rattle.lane_loops.specs.Loops.{Computes, ComputesAlone};
 ghost use Rattle.machine_numbers.specs.declared.numbers.Numbers.{Numbers};
+ghost use Rattle.machine_numbers.specs.Asks.{InRegister};
 ghost use Rattle.machine_numbers.specs.Numbers.{at_pointer, of_length, onward, one_list, swapped};
 ghost use Rattle.lane_ops.specs.Lane.{reached_of, cell_of, swap_of, alone_of, offset_of, LaneDone};
 
@@ -44,7 +45,7 @@ fn cell<F: Fn(u64, u64) -> u64>(
     tape: &[u64],
 ) -> u32
     requires callable { F.IsAlwaysCallable rule }
-    requires lanes { (n ≤ limit.lanes) × (limit.lanes ≤ length register.old) }
+    requires lanes { InRegister n register.old }
     ensures { (o : CellOp) → Computes (F.post rule) (cell_rule o) → (p : Numbers) → one_list (onward result (of_length (at_pointer p at) l)) register.new ≡ cell_of o n (of_length (at_pointer p at) l) register.old tape.now }
 {
     if n == 1 {
@@ -67,7 +68,7 @@ fn cell<F: Fn(u64, u64) -> u64>(
 }
 
 pub fn swap(n: usize, at: usize, l: usize, register: &mut [u64], tape: &mut [u64]) -> u32
-    requires { (n ≤ limit.lanes) × (limit.lanes ≤ length register.old) }
+    requires { InRegister n register.old }
     ensures { (p : Numbers) → swapped (onward result (of_length (at_pointer p at) l)) register.new tape.new ≡ swap_of n (of_length (at_pointer p at) l) register.old tape.old }
 {
     if n == 0 {
@@ -84,7 +85,7 @@ pub fn swap(n: usize, at: usize, l: usize, register: &mut [u64], tape: &mut [u64
 // By the rule of an op.
 fn alone<F: Fn(u64) -> u64>(rule: F, n: usize, register: &mut [u64]) -> u32
     requires callable { F.IsAlwaysCallable rule }
-    requires lanes { (n ≤ limit.lanes) × (limit.lanes ≤ length register.old) }
+    requires lanes { InRegister n register.old }
     ensures { (o : LaneOp) → ComputesAlone (F.post rule) (lane_rule o) → (p : Numbers) → one_list (onward result p) register.new ≡ alone_of o n p register.old }
 {
     if n == 1 {
@@ -95,10 +96,10 @@ fn alone<F: Fn(u64) -> u64>(rule: F, n: usize, register: &mut [u64]) -> u32
     DONE
 }
 
-// The op of row k, a cell op or a lane-only one. Each row has its arm, with its rule. What is below 64 and no row has arms too,
-// and the last of them another answer: with fewer arms, or with two alike, the compiler puts a test before the jump.
+// The op of row k, a cell op or a lane-only one: each row has its arm, with the rule of its op. What is below 64 and no row has arms too, and the last
+// of them another answer: with fewer arms, or with two alike, the compiler puts a test before the jump.
 pub fn lane_op(k: u8, n: usize, at: usize, l: usize, register: &mut [u64], tape: &[u64]) -> u32
-    requires { (k < 62) × (n ≤ limit.lanes) × (limit.lanes ≤ length register.old) }
+    requires { (k < 62) × InRegister n register.old }
     ensures { LaneDone k n at l result register.old tape.now register.new }
 {
     match k % 64 {
@@ -138,7 +139,7 @@ pub fn lane_op(k: u8, n: usize, at: usize, l: usize, register: &mut [u64], tape:
 }
 
 pub fn offset(v: u64, n: usize, register: &mut [u64]) -> u32
-    requires { (n ≤ limit.lanes) × (limit.lanes ≤ length register.old) }
+    requires { InRegister n register.old }
     ensures { (p : Numbers) → one_list (onward result p) register.new ≡ offset_of v n p register.old }
 {
     lane_loops::loops::offset_lanes(v, register, n);

@@ -31,12 +31,6 @@ one_up d zero h = absurd (lt_irrefl 0 h)
 one_up d (suc a) h = let e : suc a - 1 ≡ a = omega arith in rw e (mul_assoc d 2 (2 ^ a) ∙ ap (λ (x : ℕ). d * x) (sym (pow-succ' 2 a)))
 
 -- ---- digits in their place
-pub digits_short : (p : ℕ) → digits p < 2 ^ 53
-digits_short p = ⊎_elim
-    (λ (l : p < 2 ^ 52). rw (lt-ltb p (2 ^ 52) l) (omega arith))
-    (λ (g : 2 ^ 52 ≤ p). rw (le-ltb p (2 ^ 52) g) (omega arith))
-    (lt_or_ge p (2 ^ 52))
-
 pub digits_some : (p : ℕ) → 0 < p → 0 < digits p
 digits_some p h = ⊎_elim
     (λ (l : p < 2 ^ 52). rw (lt-ltb p (2 ^ 52) l) h)

@@ -33,6 +33,7 @@ fn rest_of(m: u64, k: u64, n: u64) -> u64
     requires n_bound { n < 2 ^ 53 }
     ensures { result ≡ m * 2 ^ k % n }
 {
+    // by what is left, which falls by a number of its own at each turn
     let mut rest = m % n;
     let mut left = k;
     while left > 0 {
@@ -53,6 +54,7 @@ fn pattern_of(m: u64, k: u64) -> u64
     if m == 0 {
         return 0;
     }
+    // until the digits are full or the place is the lowest
     let mut d = m;
     let mut at = k;
     while at > 0 && d < LOW {

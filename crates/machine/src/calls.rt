@@ -17,6 +17,8 @@ use partners::scan::{NOWHERE, find_partners};
 use patch_reader::reader::{Read, load};
 use states::formed::is_formed;
 
+// What is lent is lent slice by slice, as the call to link has it (`feltcairn_run_fresh`): a struct of slices that are written needs a clause on each of its
+// references.
 impl Machine {
     // A call that ends before its first step.
     pub(crate) fn refused(self, answer: Answer) -> Ran
@@ -172,6 +174,7 @@ impl Machine {
         requires { patch ≡ patch_read bytes.now }
         ensures { ran_to result (slices register.new tape.new table.new channel.new output.new tally.new) ≡ run_call bytes.now input.now budget (lent self (slices register.old tape.old table.old channel.old output.old tally.old)) }
     {
+        // a patch has the number of its file as a field (`patch_read`), a bad one too
         let number = patch.number;
         if number != 0 {
             return self.refused(Answer::BadFile(number, patch.place));

@@ -3,6 +3,10 @@ use Rattle.std.specs.Prelude.{◌≡◌, List, ℕ, ◌+◌, ◌*◌, ◌≤◌,
 use Rattle.basics.specs.Limits as limit
 use Rattle.kind_table.specs.Rows as row
 
+-- an op may count n lanes, and the register has as many as any op may count
+abbrev pub InRegister : ℕ → List ℕ → Type 0
+InRegister n g = (n ≤ limit.lanes) × (limit.lanes ≤ length g)
+
 -- an op of row k, which is one of the table's, that counts n has its payload, from byte a on, in the bytes
 pub record PayloadIn (k n a : ℕ) (bs : List ℕ) : Type 0 where
   pub known : k < 62

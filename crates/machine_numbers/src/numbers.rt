@@ -3,7 +3,8 @@
 // The sign's bit: a lane or cell of at least this has a negative integer.
 pub const SIGN: u64 = 0x8000000000000000;
 
-// What an op answers that is done and goes on to the next op, one that has set the position, and a Return that halts. A refused one answers the
+// What an op answers, in one number that a run tests in a register: its refusals have 01's numbers, by which the definitions name them (`move_of`,
+// `having`), and an enum of them would be turned back into these where a run ends. One that is done and goes on to the next op, one that has set the position, and a Return that halts. A refused one answers the
 // refusal's number, which is below NUMBERS, and so many times the lane that it lacks.
 pub const DONE: u32 = 0;
 
@@ -30,7 +31,7 @@ pub struct Numbers {
     pub mode: u32,
 }
 
-// The call modes: a Call asks the Rust's table, or means the mark.
+// The call modes: a Call asks the Rust's table, or means the mark. Numbers, since a call to link hands in any (`feltcairn_run_fresh`), and a third is 37.
 pub const RUST_TABLE: u32 = 0;
 
 pub const BY_MARK: u32 = 1;

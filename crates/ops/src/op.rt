@@ -12,16 +12,25 @@ pub enum Mode {
     Other,
 }
 
+// 0 char, 1 int, any other another.
+impl From<usize> for Mode {
+    ghost from_gives = { λ number mode. mode ≡ mode_in number };
+
+    fn from(number: usize) -> Mode {
+        match number {
+            0 => Mode::Char,
+            1 => Mode::Int,
+            _ => Mode::Other,
+        }
+    }
+}
+
 // The mode at byte `at`.
 pub fn mode_at(bytes: &[u8], at: usize) -> Mode
     requires { at + 2 ≤ length bytes.now }
     ensures { result ≡ mode_in (u16_at bytes.now at) }
 {
-    match u16_at(bytes, at) {
-        0 => Mode::Char,
-        1 => Mode::Int,
-        _ => Mode::Other,
-    }
+    Mode::from(u16_at(bytes, at))
 }
 
 // The functions that FFI Call can name.
@@ -31,13 +40,22 @@ pub enum Binding {
     Add,
 }
 
+// 0 the square root; of another number the reader lets only Add's pass.
+impl From<usize> for Binding {
+    ghost from_gives = { λ number binding. binding ≡ binding_in number };
+
+    fn from(number: usize) -> Binding {
+        match number {
+            0 => Binding::SquareRoot,
+            _ => Binding::Add,
+        }
+    }
+}
+
 // The binding at byte `at`.
 pub fn binding_at(bytes: &[u8], at: usize) -> Binding
     requires { at + 2 ≤ length bytes.now }
     ensures { result ≡ binding_in (u16_at bytes.now at) }
 {
-    match u16_at(bytes, at) {
-        0 => Binding::SquareRoot,
-        _ => Binding::Add,
-    }
+    Binding::from(u16_at(bytes, at))
 }

@@ -57,6 +57,7 @@ impl<'a> Reader<'a> {
         Ok(*front)
     }
 
+    // A byte, a number and a value: each is a line, as the library has from_le_bytes in each type and in no trait.
     pub fn byte(&mut self) -> Result<u8, Damaged> {
         Ok(u8::from_le_bytes(self.array()?))
     }

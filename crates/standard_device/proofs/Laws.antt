@@ -14,13 +14,19 @@ use borrow.Author.Tests.{ltb-true, ltb-false, lt-ltb, le-ltb, lt-leb, eq-eqb, ne
 use Rattle.lanes.specs.Float.{loaded_of}
 use Rattle.lanes.proofs.Ints.{lt_or_ge}
 use Rattle.lanes.proofs.Values.{pattern_fixed}
-use Rattle.lanes.proofs.Steps.{digits_short, digits_some}
+use Rattle.lanes.proofs.Steps.{digits_some}
 use Rattle.lanes.proofs.Steps as lanes
 use Rattle.standard_device.specs.Root.{infinity, digits, places, steps, square, twice, Nearest, Root, zero_root, minus_zero_root, infinity_root, no_root, nearest_root, root_rule, root_in, nearer, near_root, positive_root}
 use Rattle.standard_device.specs.Post.{Lifted}
 use Rattle.standard_device.proofs.Whole.{Cut, root_in_cut, sq_lt, sq_back}
 
 -- ---- the floats between two steps of 53 digits
+digits_lt : (p : ℕ) → digits p < 2 ^ 53
+digits_lt p = ⊎_elim
+    (λ (l : p < 2 ^ 52). rw (lt-ltb p (2 ^ 52) l) (omega arith))
+    (λ (g : 2 ^ 52 ≤ p). rw (le-ltb p (2 ^ 52) g) (omega arith))
+    (lt_or_ge p (2 ^ 52))
+
 -- n * 2 ^ i, n of at most 53 digits, is no number between q * 2 ^ j and (q + 1) * 2 ^ j
 between : (n i q j : ℕ) → n < 2 ^ 53 → 2 ^ 52 ≤ q → (n * 2 ^ i ≤ q * 2 ^ j) ⊎ (suc q * 2 ^ j ≤ n * 2 ^ i)
 between n i q j h k = ⊎_elim
@@ -36,7 +42,7 @@ between n i q j h k = ⊎_elim
 
 gap : (p q j : ℕ) → 2 ^ 52 ≤ q → (steps p ≤ q * 2 ^ j) ⊎ (suc q * 2 ^ j ≤ steps p)
 unfolding steps
-gap p q j h = between (digits p) (places p) q j (digits_short p) h
+gap p q j h = between (digits p) (places p) q j (digits_lt p) h
 
 -- ---- squares of middles, in steps of u
 lower : (v q u n : ℕ) → v < q * u → q * q ≤ n → (v + q * u) * (v + q * u) < 4 * (n * (u * u))
@@ -202,13 +208,13 @@ module _ (n : ℕ) (h : n < 4 ^ 53) where
 
 module _ (a : ℕ) (p : 0 < a) (h : a < infinity) where
   pub number_fits : number_of a < 4 ^ 53
-  number_fits = number_high (digits a * 2 ^ zeros_of a) (places_of a % 2) (filled_high (digits a) (digits_some a p) (digits_short a)) (omega arith)
+  number_fits = number_high (digits a * 2 ^ zeros_of a) (places_of a % 2) (filled_high (digits a) (digits_some a p) (digits_lt a)) (omega arith)
 
   pub alone : Alone a (positive_root a)
   unfolding positive_root near_root square steps
   alone =
-      let z = zeros (digits a) (digits_some a p) (digits_short a) in
-      let l = number_low (digits a * 2 ^ zeros_of a) (places_of a % 2) (filled_low (digits a) (digits_some a p) (digits_short a)) in
+      let z = zeros (digits a) (digits_some a p) (digits_lt a) in
+      let l = number_low (digits a * 2 ^ zeros_of a) (places_of a % 2) (filled_low (digits a) (digits_some a p) (digits_lt a)) in
       alone_near a (number_of a) (root_in 53 (number_of a)) (places_of a / 2)
       (root_in_cut 53 (number_of a) number_fits)
       (spread (digits a) (places a) (zeros_of a) (places_of a) (omega arith))

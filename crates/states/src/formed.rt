@@ -14,7 +14,9 @@ use testing_device::device::Peeked;
 fn has_room(register: &[u64], table: &[u16], channel: &[u64]) -> bool
     ensures { result ≡ has_room register.now table.now channel.now }
 {
-    Record::LANES <= register.len() && Read::MARKS <= table.len() && Peeked::CHANNEL <= channel.len()
+    Record::LANES <= register.len()
+        && Read::MARKS <= table.len()
+        && Peeked::CHANNEL <= channel.len()
 }
 
 // What a fresh run asks: a known call mode, and room.
@@ -90,7 +92,7 @@ fn table_names(table: &[u16], n: usize, rows: &[u8]) -> bool
     true
 }
 
-// A well-formed state of the patch whose ops have these rows.
+// A well-formed state of the patch whose ops have these rows; the slices are lent one by one, as to a run.
 #[tactic(auto, unfolding(crate::specs::Formed::is_formed))]
 pub fn is_formed(
     h: Numbers,

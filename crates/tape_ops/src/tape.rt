@@ -3,6 +3,7 @@
 ghost use Rattle.std.specs.Prelude.{◌≡◌, ◌+◌, ◌-◌, ◌*◌, ◌^◌, ◌≤◌, ◌<◌, length};
 ghost use Rattle.basics.specs.Limits as limit;
 ghost use Rattle.machine_numbers.specs.declared.numbers.Numbers.{Numbers};
+ghost use Rattle.machine_numbers.specs.Asks.{InRegister};
 ghost use Rattle.machine_numbers.specs.Numbers.{at_pointer, of_length, of_lanes, of_saved, onward, one_list};
 ghost use Rattle.tape_ops.specs.Tape.{reach, set_of, load_of, store_of, move_of, where_of, deref_of, refer_of, stocked, alloc_of};
 
@@ -47,8 +48,9 @@ fn stock(l: usize) -> usize
     l
 }
 
+// Of one value without a loop, for speed; so Load and Store.
 pub fn set(n: usize, a: usize, lanes: &mut usize, register: &mut [u64], bytes: &[u8]) -> u32
-    requires { (n ≤ limit.lanes) × (limit.lanes ≤ length register.old) × (a + 8 * n ≤ length bytes.now) }
+    requires { InRegister n register.old × (a + 8 * n ≤ length bytes.now) }
     ensures { (p : Numbers) → one_list (onward result (of_lanes p lanes.new)) register.new ≡ set_of n a p register.old bytes.now }
 {
     *lanes = n;
@@ -69,7 +71,7 @@ pub fn load(
     register: &mut [u64],
     tape: &[u64],
 ) -> u32
-    requires { (at ≤ limit.farthest) × (counted.old ≤ limit.longest) × (n ≤ limit.lanes) × (limit.lanes ≤ length register.old) }
+    requires { (at ≤ limit.farthest) × (counted.old ≤ limit.longest) × InRegister n register.old }
     ensures { (p : Numbers) → one_list (onward result (of_lanes (of_length (at_pointer p at) counted.new) lanes.new)) register.new ≡ load_of n (of_lanes (of_length (at_pointer p at) counted.old) lanes.old) register.old tape.now }
 {
     if n == 1 {
@@ -91,7 +93,7 @@ pub fn load(
 }
 
 pub fn store(n: usize, at: usize, counted: &mut usize, register: &[u64], tape: &mut [u64]) -> u32
-    requires { (at ≤ limit.farthest) × (counted.old ≤ limit.longest) × (n ≤ limit.lanes) × (limit.lanes ≤ length register.now) }
+    requires { (at ≤ limit.farthest) × (counted.old ≤ limit.longest) × InRegister n register.now }
     ensures { (p : Numbers) → one_list (onward result (of_length (at_pointer p at) counted.new)) tape.new ≡ store_of n (of_length (at_pointer p at) counted.old) register.now tape.old }
 {
     if n == 1 {

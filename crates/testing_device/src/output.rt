@@ -5,14 +5,14 @@ ghost use Rattle.testing_device.specs.Room.{left, placed, put_in};
 
 use ops::op::Mode;
 
-// Characters that end at the array's end: those from place `from` on.
+// Characters that end at the array's end: those from place `from` on. The memory is fixed, so that no list of their own length is made.
 #[derive(Drop)]
 struct Text {
     chars: [u64; 20],
     from: usize,
 }
 
-// One place stays free for a sign.
+// One place stays free for a sign. The last digit comes first, and how many there are is known only at the end: there is no range to go through.
 fn digits_of(n: u64) -> Text
     requires { n < 10 ^ 19 }
     ensures { (drop result.from result.chars ≡ decimal 20 n) × (0 < result.from) × (result.from < 20) }
