@@ -4,12 +4,14 @@
     register.py             writes docs/REGISTER.md
     register.py --check     says whether what stands there is something else, and writes nothing
 
-A crate has its section in the order of crates.txt; a program has none. Of each function marked `pub` it gives
-- its path, module::name or Type::name, with the word 'own' where its module is private, so that its own crate alone can call it;
+A crate has its section in the order of crates.txt; a program has none. Of each function marked `pub`, and of each function of a trait marked so,
+it gives
+- its path, module::name, Type::name or Trait::name, with the word 'own' where its module is private, so that its own crate alone can call it;
 - the first sentence of the comment right above it;
 - whether it asks something of its caller, a `requires`;
 - the names in its `ensures` that its file imports by 'ghost use Rattle.NAME..', each with the file that defines it, or for a library of the
-  toolchain with that library's name; the words of std, which every clause is made of, are left out.
+  toolchain with that library's name; the words of std, which every clause is made of, are left out. Of a trait's function they are those that
+  its crate's implementations put for the ghost items that the clause names.
 """
 import pathlib
 import re
@@ -22,7 +24,7 @@ import crates  # noqa: E402
 
 HEAD = """# The register of functions
 
-Made by docs/register.py from the sources: every function that a library marks `pub`. *Asks* is said of one with a `requires`, which is proved at each call; *own* of one that only its own crate can call. The definitions are those that its `ensures` cites; paths start at the crate's folder. *In itself*: the `ensures` says it without one; *none*: there is no `ensures`. What the calls for outside promise, in words, is in docs/PROMISES.md.
+Made by docs/register.py from the sources: every function that a library marks `pub`, and those of its traits. *Asks* is said of one with a `requires`, which is proved at each call; *own* of one that only its own crate can call. The definitions are those that its `ensures` cites; paths start at the crate's folder. *In itself*: the `ensures` says it without one; *none*: there is no `ensures`. What the calls for outside promise, in words, is in docs/PROMISES.md.
 """
 
 
@@ -58,10 +60,10 @@ def block(text, at):
 
 
 def contract(text, at):
-    """What stands between a function's name and its body: its parameters, whether it asks something, and its `ensures`."""
+    """What stands between a function's name and its body, or of a trait's its end: its parameters, whether it asks something, and its `ensures`."""
     start, asks, ensures = at, False, ""
     while True:
-        found = re.compile(r"(?:(requires|ensures)\*?(?: \w+)? )?\{").search(text, at)
+        found = re.compile(r"(?:(requires|ensures)\*?(?: \w+)? )?\{|;$", re.M).search(text, at)
         if at == start:
             parameters = re.findall(r"(\w+):(?!:)", text[start:found.start()])
         if not found[1]:
@@ -101,16 +103,29 @@ def cited(crate, text, parameters, ensures):
     return ", ".join("%s (%s)" % (", ".join(found), file) for file, found in by.items()) or "in itself"
 
 
+def implemented(crate, trait, ensures):
+    """The definitions that the implementations of a trait put for the ghost items that an `ensures` names."""
+    found = []
+    for source, _ in modules(crate):
+        text = source.read_text()
+        for head in re.finditer(r"^impl(?:<[^>]*>)? %s(?:<.*>)? for [^{]*" % trait, text, re.M):
+            ghosts = re.findall(r"^ *ghost (\w+) = \{(.*)\};", text[head.end():block(text, head.end())], re.M)
+            found.append(cited(crate, text, [], "".join(clause for name, clause in ghosts if name in re.split(r"\W+", ensures))))
+    return ", ".join(found)
+
+
 def functions(crate):
     for source, seen in modules(crate):
         text = source.read_text()
-        types = [(found.start(), found[1]) for found in re.finditer(r"^impl(?:<[^>]*>)? (\w+)", text, re.M)]
-        for found in re.finditer(r"^( *)pub (?:extern \"C\" )?fn (\w+)", text, re.M):
-            owner = [name for at, name in types if at < found.start()][-1] if found[1] else source.stem
+        types = [(found.start(), found[2], found[1]) for found in re.finditer(r"^(impl(?:<[^>]*>)?|pub trait) (\w+)", text, re.M)]
+        for found in re.finditer(r"^( *)(pub )?(?:extern \"C\" )?fn (\w+)", text, re.M):
+            _, owner, kind = [each for each in types if each[0] < found.start()][-1] if found[1] else (0, source.stem, "")
+            if not found[2] and kind != "pub trait":
+                continue
             parameters, asks, ensures = contract(text, found.end())
             notes = ", ".join(["own"] * (not seen) + ["asks"] * asks)
-            row = "`%s::%s`" % (owner, found[2]), said(text, found.start()), notes, cited(crate, text, parameters, ensures)
-            yield "| " + " | ".join(row) + " |"
+            definitions = implemented(crate, owner, ensures) if kind == "pub trait" else cited(crate, text, parameters, ensures)
+            yield "| " + " | ".join(("`%s::%s`" % (owner, found[3]), said(text, found.start()), notes, definitions)) + " |"
 
 
 def page():
