@@ -2,8 +2,8 @@
 ghost use Rattle.std.specs.Prelude.{◌≡◌};
 ghost use Rattle.answers.specs.Run.{number_of, place_of, lane_of};
 
-// What a call answers; specs/Run has 01's number and place for each, and the lane of 02's ask 3. A refused step has its number and its lane: the
-// steps of a run answer both in one number, for speed, and the model has 01's numbers (`Refused` in `run_of`).
+// What a call answers; specs/Run has 01's number and place for each, and the lane of 02's ask 3. No Result: each answer goes with the steps made and the
+// machine (`Ran`), and a spent run can be taken up again. A refused step has its number, 01's, by which the model names it, and its lane.
 #[derive(Clone, Copy, Debug, PartialEq, Eq)]
 pub enum Answer {
     BadFile(usize, usize),

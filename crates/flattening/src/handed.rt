@@ -6,7 +6,7 @@ use crate::numbers::flatten_numbers;
 use answers::flatten::{FlattenError, Flattened, bytes_of};
 use partners::patch::{Patch, read};
 
-// What flattening answers, and the patch as it is read of the written bytes; of no bytes where it was refused.
+// A type of its own, as the definition names it (`handed`): what flattening answers, and the patch as it is read of the written bytes; of no bytes where it was refused.
 #[derive(Drop)]
 pub struct FlattenedPatch {
     pub answer: Result<Flattened, FlattenError>,

@@ -6,7 +6,7 @@ use crate::join::join;
 use answers::join::{JoinError, Joined, length_of};
 use partners::patch::{Patch, read};
 
-// What joining answers, and the patch as it is read of the written bytes; of no bytes where it was refused.
+// A type of its own, as the definition names it (`handed`): what joining answers, and the patch as it is read of the written bytes; of no bytes where it was refused.
 #[derive(Drop)]
 pub struct JoinedPatch {
     pub answer: Result<Joined, JoinError>,

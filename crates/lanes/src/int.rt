@@ -6,14 +6,14 @@ ghost use Rattle.lanes.specs.Int.{signed, wrap, signed_by, int_add, int_sub, int
 pub const HALF: u64 = 0x8000_0000_0000_0000;
 
 // How far from 0 the integer of a pattern is.
-pub fn magnitude(a: u64) -> u64
+pub(crate) fn magnitude(a: u64) -> u64
     ensures { result ≡ unsigned_abs (signed a) }
 {
     a.cast_signed().unsigned_abs()
 }
 
 // The pattern of m, or of -m.
-pub fn with_sign(negative: bool, m: u64) -> u64
+pub(crate) fn with_sign(negative: bool, m: u64) -> u64
     ensures { result ≡ wrap (signed_by negative m) }
 {
     if negative { m.wrapping_neg() } else { m }
@@ -21,14 +21,14 @@ pub fn with_sign(negative: bool, m: u64) -> u64
 
 // The pattern of m, with the sign's bit of a: taken from 0 that bit is no digit or all of them, and -m is m - 1 with every digit changed. So no
 // branch is taken on the sign.
-pub fn signed_like(a: u64, m: u64) -> u64
+pub(crate) fn signed_like(a: u64, m: u64) -> u64
     ensures { result ≡ wrap (signed_by (not (nat_lt a (2 ^ 63))) m) }
 {
     let s = 0u64.wrapping_sub(a / HALF);
     m.wrapping_add(s) ^ s
 }
 
-// a * b, modulo 2^64, from the products of the halves.
+// a * b, modulo 2^64, from the products of the halves, as 01 has it.
 pub fn wrapping_mul(a: u64, b: u64) -> u64
     ensures { result ≡ (a * b) % 2 ^ 64 }
 {

@@ -17,8 +17,8 @@ use partners::scan::{NOWHERE, find_partners};
 use patch_reader::reader::{Read, load};
 use states::formed::is_formed;
 
-// What is lent is lent slice by slice, as the call to link has it (`feltcairn_run_fresh`): a struct of slices that are written needs a clause on each of its
-// references.
+// What is lent is lent slice by slice, as the call to link has it (`feltcairn_run_fresh`): of a struct of slices that are written each contract
+// would have to say that its references stay the same.
 impl Machine {
     // A call that ends before its first step.
     pub(crate) fn refused(self, answer: Answer) -> Ran

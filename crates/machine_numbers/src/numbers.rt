@@ -3,9 +3,9 @@
 // The sign's bit: a lane or cell of at least this has a negative integer.
 pub const SIGN: u64 = 0x8000000000000000;
 
-// What an op answers, in one number that a run tests in a register: its refusals have 01's numbers, by which the definitions name them (`move_of`,
-// `having`), and an enum of them would be turned back into these where a run ends. One that is done and goes on to the next op, one that has set the position, and a Return that halts. A refused one answers the
-// refusal's number, which is below NUMBERS, and so many times the lane that it lacks.
+// What an op answers that is done and goes on to the next op, one that has set the position, and a Return that halts. A refused one answers the
+// refusal's number, which is below NUMBERS, and so many times the lane that it lacks. One number, which a run tests in a register; the refusals' are 01's,
+// by which the definitions name them (`move_of`, `having`), and an enum of them would be turned back into these where a run ends.
 pub const DONE: u32 = 0;
 
 pub const JUMPED: u32 = 1;

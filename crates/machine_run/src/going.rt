@@ -28,7 +28,7 @@ fn answer_of(a: u32) -> Answer
     Answer::Refused(a % NUMBERS, a / NUMBERS)
 }
 
-// How many steps it made: one where it went on or halted, none where it is refused.
+// How many steps it made, a number since the budget falls by it: one where it went on or halted, none where it is refused.
 fn made_by(a: u32) -> u32
     ensures { result ≡ made_by a }
 {
@@ -82,6 +82,7 @@ pub fn go(
         };
     }
     let mut left = budget;
+    // no range: an op may jump
     loop {
         if columns.rows.len() <= h.position {
             return Ended {

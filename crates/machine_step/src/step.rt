@@ -19,8 +19,8 @@ use ops::op::{binding_at, mode_at};
 use tape_ops::tape;
 
 // The op at the position: of row k, it counts n and its payload is at byte a. Each row has its arm, those of the lane ops in `lane_op`, whose match goes
-// on where this one ends; of the two the compiler makes one jump. The slices that an op may write are lent each by itself: a struct of them needs a
-// clause on each of its references.
+// on where this one ends; of the two the compiler makes one jump. The slices that an op may write are lent each by itself: of a struct of them each
+// contract would have to say that its references stay the same (`ghost_name`).
 fn op(
     k: u8,
     n: usize,

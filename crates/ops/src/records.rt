@@ -8,7 +8,7 @@ use byte_fields::read::{u16_at, u32_at};
 use kind_table::kinds::{index_of, kind_at};
 use kind_table::shape::Shape;
 
-// The last mode, the one that is left out, and the last binding.
+// The last mode, the one that is left out, and the last binding, by the file's numbers, which are tested before they name any.
 const MODES: usize = 3;
 
 const FLOAT: usize = 2;

@@ -15,7 +15,8 @@ pub const NOWHERE: u16 = 65535;
 // The frames: the lowest, and one for each op.
 const FRAMES: usize = Read::OPS + 1;
 
-// The frames that are open behind the place, counted from 0, each with its End and its nearest Else; the lowest has no End.
+// The frames that are open behind the place, counted from 0, each with its End and its nearest Else; the lowest has no End. Two
+// arrays, as the definition of the pass has two lists (`pass_of`).
 #[derive(Drop)]
 struct Frames {
     ends: [u16; FRAMES],
@@ -119,6 +120,7 @@ pub fn find_partners(
     };
     let mut m: usize = Read::MARKS;
     let mut i = rows.len();
+    // the form is 01's: a labelled scan over the ops, left by break
     let first = 'scan: loop {
         if i == 0 {
             break 'scan m;
@@ -143,7 +145,8 @@ pub fn first_of(turn: u16, end: usize) -> usize
     }
 }
 
-// The n-th Function mark, counted from 0, of marks in file order.
+// The n-th Function mark, counted from 0, of marks in file order. The one value for no place where there is none, as `nth_of` has it: a jump refuses it
+// with every other place that is no op's.
 #[tactic(auto, unfolding(crate::specs::Columns::nth_of))]
 pub fn nth_function(marks: &[u16], n: u64) -> usize
     ensures { result ≡ nth_of n marks.now }

@@ -7,7 +7,7 @@ use kind_table::kinds::kind_at;
 use kind_table::known::Known;
 use kind_table::need::Need;
 
-// How many brackets it opens: one for Function, While and If. A number, since brackets are counted; so for those that it closes.
+// How many brackets it opens: one for Function, While and If. A number, since brackets are counted; so below.
 #[tactic(auto, unfolding(crate::specs::Rows::opens_of))]
 pub fn opens_of(k: usize) -> usize
     ensures { (result ≡ opens_of k) × (result ≤ 1) }

@@ -20,7 +20,8 @@ pub struct Read {
     pub payloads: [u32; Read::OPS],
 }
 
-// Why a file is not good: the first refusal's number and place, and how many ops stand before it.
+// Why a file is not good: the first refusal's number and place, and how many ops stand before it. The number is what `patch_of` has of the refusal, and
+// theorems on files speak of (`Loaded`); so the errors of the calls have it too.
 #[derive(Clone, Copy, PartialEq, Eq, Debug)]
 pub struct Unread {
     pub number: usize,
@@ -60,7 +61,7 @@ impl Unread {
     }
 }
 
-// 1 for a Function mark, else 0.
+// How many Function marks a row is: 1 for Function, else 0. A number, since marks are counted.
 #[tactic(auto, unfolding(ops::specs::Patch::mark_of))]
 pub fn mark_of(row: usize) -> usize
     ensures { (result ≡ mark_of row) × (result ≤ 1) }

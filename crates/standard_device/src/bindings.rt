@@ -11,14 +11,14 @@ use testing_device::channel::is_ring;
 use testing_device::device::Peeked;
 
 // What FFI Call gives: the ring's first place and count after it.
-#[derive(Clone, Copy)]
+#[derive(Clone, Copy, PartialEq, Eq, Debug)]
 pub struct Sent {
     pub first: usize,
     pub waiting: usize,
 }
 
 // Why it calls nothing. NotARing is the public form of 37.
-#[derive(Clone, Copy, PartialEq, Eq)]
+#[derive(Clone, Copy, PartialEq, Eq, Debug)]
 pub enum CallError {
     TooFew,
     NotARing,

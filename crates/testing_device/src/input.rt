@@ -11,11 +11,11 @@ fn with_digit(a: u64, v: u64) -> u64
     requires { 48 ≤ v % 256 }
     ensures { result ≡ (a * 10 + (v % 256 - 48)) % 2 ^ 64 }
 {
-    let twice = std::num::wrapping_add_u64(a, a);
-    let fourfold = std::num::wrapping_add_u64(twice, twice);
-    let eightfold = std::num::wrapping_add_u64(fourfold, fourfold);
-    let tenfold = std::num::wrapping_add_u64(eightfold, twice);
-    std::num::wrapping_add_u64(tenfold, v % 256 - 48)
+    let twice = a.wrapping_add(a);
+    let fourfold = twice.wrapping_add(twice);
+    let eightfold = fourfold.wrapping_add(fourfold);
+    let tenfold = eightfold.wrapping_add(twice);
+    tenfold.wrapping_add(v % 256 - 48)
 }
 
 // An integer: spaces are passed, then digits are taken; without a digit it is 0.
