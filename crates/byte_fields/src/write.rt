@@ -3,12 +3,14 @@ ghost use Rattle.std.specs.Prelude.{◌≡◌, ◌+◌, ◌≤◌, length};
 ghost use Rattle.byte_fields.specs.Bytes.{text_at, le16, le32};
 ghost use Rattle.byte_fields.specs.Storage.{placed};
 
-// The n bytes from byte `from` of `bytes`, to byte `at` of `out`.
+// The n bytes from byte `from` of `bytes`, to byte `at` of `out`. By index: `copy_from_slice` would have an archive ask for `memmove` from outside.
 pub fn copy_bytes(out: &mut [u8], at: usize, bytes: &[u8], from: usize, n: usize)
     requires { (at + n ≤ length out.old) × (from + n ≤ length bytes.now) }
     ensures { out.new ≡ placed out.old at (text_at bytes.now from n) }
 {
-    out[at..at + n].copy_from_slice(&bytes[from..from + n]);
+    for i in 0..n {
+        out[at + i] = bytes[from + i];
+    }
 }
 
 // A function a width, since the library's `to_le_bytes` is one for each type.

@@ -41,10 +41,10 @@ use Rattle.flattening.proofs.FlattenedIsAPatch.{patch_again, Says, bodies_say}
 abbrev zeros : ℕ → List ℕ
 zeros n = replicate n 0
 
-part_long : (n : ℕ) → n ≤ 256 → n ≡ length (take n (zeros 256))
+pub part_long : (n : ℕ) → n ≤ 256 → n ≡ length (take n (zeros 256))
 part_long n h = sym (ap length (take-replicate n 256 0 h) ∙ length-replicate n 0)
 
-columns_are : (s o o' : List ℕ) (a : Flattening) (n : ℕ) (ns fs cs : List ℕ) → n ≤ 256
+pub columns_are : (s o o' : List ℕ) (a : Flattening) (n : ℕ) (ns fs cs : List ℕ) → n ≤ 256
     → length ns ≡ length (take n (zeros 256)) → length fs ≡ length (take n (zeros 256)) → length cs ≡ length (take n (zeros 256))
     → outcome a o' ns fs cs ≡ flatten_of s o (take n (zeros 256)) (take n (zeros 256)) (take n (zeros 256))
     → outcome a o' (take n (ns ++ drop n (zeros 256))) (take n (fs ++ drop n (zeros 256))) (take n (cs ++ drop n (zeros 256))) ≡ flatten_of s o (zeros n) (zeros n) (zeros n)

@@ -1,5 +1,5 @@
 -- The numbering of Flatten as it is computed: by the ops' rows, with a flag for each body seen and the bodies around in an array. Assumes nothing.
-use Rattle.std.specs.Prelude.{ℕ, zero, suc, ◌+◌, ◌≤◌, Bool, cond, List, [], ◌∷◌, map, eqb, ◌==◌, get_or, take, count_by, Option, Some, None, Result, Ok, Err}
+use Rattle.std.specs.Prelude.{ℕ, zero, suc, ◌+◌, ◌≤◌, Bool, false, cond, List, [], ◌∷◌, map, eqb, ◌==◌, get_or, take, replicate, count_by, Option, Some, None, Result, Ok, Err}
 use Rattle.std.specs.List.{All}
 use Rattle.basics.specs.Limits.{most_ops}
 use Rattle.kind_table.specs.Rows as row
@@ -73,7 +73,11 @@ unfoldable pub listed : ℕ → List Bool → List ℕ
 listed p [] = []
 listed p (t ∷ ts) = let r = listed (suc p) ts in cond t (p ∷ r) r
 
+-- no op has a body yet
+unfoldable pub blank : Numbering
+blank = record { owner = replicate most_ops 0; seen = replicate most_bodies false }
+
 -- what the numbering of n ops found
-abbrev pub told : Result Numbering NoOpenEnd → ℕ → Numbered
-told (Err e) n = stray e.op
-told (Ok x) n = numbered (take n x.owner) (listed 0 x.seen)
+abbrev pub told : Result (Unit {0}) NoOpenEnd → Numbering → ℕ → Numbered
+told (Err e) x n = stray e.op
+told (Ok u) x n = numbered (take n x.owner) (listed 0 x.seen)

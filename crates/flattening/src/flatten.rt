@@ -9,11 +9,11 @@ use answers::flatten::{FlattenError, Flattened, bodies_of};
 use patch_reader::reader::Read;
 
 // The numbers, first ops and op counts of entries, side by side as `flatten_numbers` fills them.
-#[derive(Drop)]
-struct Columns {
-    numbers: [u32; Read::MARKS],
-    firsts: [u32; Read::MARKS],
-    counts: [u32; Read::MARKS],
+#[derive(Clone, Copy)]
+pub struct Columns {
+    pub numbers: [u32; Read::MARKS],
+    pub firsts: [u32; Read::MARKS],
+    pub counts: [u32; Read::MARKS],
 }
 
 impl Columns {

@@ -3,7 +3,7 @@ ghost use Rattle.std.specs.Prelude.{◌≡◌, [], false, ℕ, ◌+◌, ◌≤�
 ghost use Rattle.basics.specs.Limits.{most_ops};
 ghost use Rattle.answers.specs.declared.flatten.FlattenError.TheVariants.{NoOpenEnd as no_open_end};
 ghost use Rattle.flattening.specs.Flatten.{number};
-ghost use Rattle.flattening.specs.Scope.{here_of, row_note, leads_to, place, stack_of, place_in, passed, Low, row_notes, most_bodies, listed, told};
+ghost use Rattle.flattening.specs.Scope.{here_of, row_note, leads_to, place, stack_of, place_in, passed, Low, row_notes, most_bodies, blank, told};
 
 use answers::flatten::FlattenError;
 use kind_table::bracket;
@@ -113,24 +113,34 @@ impl Scope {
 impl Numbering {
     // Main's body, and one for each op at most.
     pub const BODIES: usize = Read::OPS + 1;
+
+    #[tactic(auto, unfolding(crate::specs::Scope::blank))]
+    pub fn blank() -> Numbering
+        ensures { result ≡ blank }
+    {
+        Numbering {
+            owner: [0; Read::OPS],
+            seen: [false; Numbering::BODIES],
+        }
+    }
 }
 
-// The body of each op, and a flag for each body that has an op. An op makes at most one body, so no number is above the op count.
-pub fn number_ops(rows: &[u8]) -> Result<Numbering, NoOpenEnd>
-    requires { length rows.now ≤ most_ops }
-    ensures { told result (length rows.now) ≡ number 0 0 0 [] [] (row_notes rows.now) }
+// The body of each op, and a flag for each body that has an op. An op makes at most one body, so no number is above the op count. The numbering is lent, as
+// `Read` is, since by value it would be copied.
+pub fn number_ops(rows: &[u8], numbering: &mut Numbering) -> Result<(), NoOpenEnd>
+    requires few { length rows.now ≤ most_ops }
+    requires blank { numbering.old ≡ blank }
+    ensures { told result numbering.new (length rows.now) ≡ number 0 0 0 [] [] (row_notes rows.now) }
 {
-    let mut owner = [0u16; Read::OPS];
-    let mut seen = [false; Numbering::BODIES];
     let mut scope = Scope::main();
     let mut count: usize = 0;
     for (i, &row) in rows.iter().enumerate() {
         let k = usize::from(row);
-        let here = here_of(k, scope.body, seen[scope.body + 1], count);
+        let here = here_of(k, scope.body, numbering.seen[scope.body + 1], count);
         scope.pass(k, here).ok_or(NoOpenEnd { op: i })?;
-        count += usize::from(!seen[here]);
-        owner[i] = here as u16;
-        seen[here] = true;
+        count += usize::from(!numbering.seen[here]);
+        numbering.owner[i] = here as u16;
+        numbering.seen[here] = true;
     }
-    Ok(Numbering { owner, seen })
+    Ok(())
 }

@@ -84,9 +84,9 @@ module _ (s : List ℕ) (z : (patch_of s).number ≡ 0) where
 
 -- ---- the stack after all its ops
 
-top_down_long : (es : List Entry) (n : ℕ) → length (top_down es n) ≡ n
-top_down_long es zero = refl
-top_down_long es (suc n) = ap suc (top_down_long es n)
+top_down_long : (is vs : List ℕ) (n : ℕ) → length (top_down is vs n) ≡ n
+top_down_long is vs zero = refl
+top_down_long is vs (suc n) = ap suc (top_down_long is vs n)
 
 abbrev joined_ops : List ℕ → List Op
 joined_ops s = join (map (op_at s) (patch_of s).items)
@@ -105,7 +105,7 @@ module _ {s k c p : List ℕ} {n : ℕ} (h : Holds s k c p n) (st : Stack) (q : 
       ∙ length-reverse (map (op_of s) (after s k c n))
       ∙ length-map (after s k c n) (op_of s)
       ∙ ap length (sym q)
-      ∙ top_down_long st.entries st.n)
+      ∙ top_down_long st.ops st.values st.n)
 
   module _ (z : (patch_of s).number ≡ 0) (out : List ℕ) (room : length s ≤ length out) where
     pub file_fits : Below 256 s → length (file s (stack st)) ≤ length out

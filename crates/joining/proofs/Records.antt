@@ -255,34 +255,37 @@ file_more s e st =
     ∙ encode_append (reverse (map (op_of s) st)) (op_of s e ∷ [])
     ∙ ap (λ (l : List ℕ). file s st ++ l) (append-nil (encode (op_of s e)))
 
-module _ (s : List ℕ) (es : List Entry) where
-  abbrev written : ℕ → List ℕ
-  written j = file s (top_down es j)
+module _ (s is vs : List ℕ) where
+  abbrev entry_here : ℕ → Entry
+  entry_here j = entry (get_or is j 0) (get_or vs j 0)
 
-  written_more : (j : ℕ) → written (j + 1) ≡ written j ++ encode (op_of s (get_or es j (entry 0 0)))
-  written_more j = rw add-one (file_more s (get_or es j (entry 0 0)) (top_down es j))
+  abbrev written : ℕ → List ℕ
+  written j = file s (top_down is vs j)
+
+  written_more : (j : ℕ) → written (j + 1) ≡ written j ++ encode (op_of s (entry_here j))
+  written_more j = rw add-one (file_more s (entry_here j) (top_down is vs j))
 
   written_long : (j k : ℕ) → length (written j) ≤ length (written (j + k))
   written_long j zero = rw (add-zero) (le_refl (length (written j)))
   written_long j (suc k) =
       let e : j + suc k ≡ (j + k) + 1 = omega arith in
-      rw (e, written_more (j + k), length-append (written (j + k)) (encode (op_of s (get_or es (j + k) (entry 0 0)))))
+      rw (e, written_more (j + k), length-append (written (j + k)) (encode (op_of s (entry_here (j + k)))))
       (omega (arith, written_long j k))
 
   -- there is room for one more
-  written_room : (j n : ℕ) → j < n → length (written j) + length (encode (op_of s (get_or es j (entry 0 0)))) ≤ length (written n)
+  written_room : (j n : ℕ) → j < n → length (written j) + length (encode (op_of s (entry_here j))) ≤ length (written n)
   written_room j n l =
       let e : (j + 1) + (n - (j + 1)) ≡ n = omega arith in
       let g : length (written (j + 1)) ≤ length (written n) = rw e at (written_long (j + 1) (n - (j + 1))) in
-      let q : length (written (j + 1)) ≡ length (written j) + length (encode (op_of s (get_or es j (entry 0 0)))) =
-      ap length (written_more j) ∙ length-append (written j) (encode (op_of s (get_or es j (entry 0 0)))) in
+      let q : length (written (j + 1)) ≡ length (written j) + length (encode (op_of s (entry_here j))) =
+      ap length (written_more j) ∙ length-append (written j) (encode (op_of s (entry_here j))) in
       omega arith
 
-  within_at : (c n j : ℕ) → Within c (top_down es n) → j < n → (get_or es j (entry 0 0)).op < c
+  within_at : (c n j : ℕ) → Within c (top_down is vs n) → j < n → (entry_here j).op < c
   within_at c zero j w l = absurd (not-suc-le-zero l)
   within_at c (suc n) j w l = by (λ x. within_at c n j w.1 x) (eqb j n) refl
     where
-      by : (j < n → (get_or es j (entry 0 0)).op < c) → (t : Bool) → eqb j n ≡ t → (get_or es j (entry 0 0)).op < c
+      by : (j < n → (entry_here j).op < c) → (t : Bool) → eqb j n ≡ t → (entry_here j).op < c
       by less true e = let q : j ≡ n = eqb-true j n e in rw q w.0
       by less false e = less (below j n l (eqb-false j n e))
         where
@@ -292,48 +295,42 @@ module _ (s : List ℕ) (es : List Entry) where
 -- ---- the turns of the loop
 
 -- the first j entries are written, up to byte `at`
-pub record Wrote (s : List ℕ) (es : List Entry) (out₀ out : List ℕ) (j at : ℕ) : Type 0 where
-  pub long : at ≡ length (file s (top_down es j))
-  pub put : out ≡ placed out₀ 0 (file s (top_down es j))
+pub record Wrote (s is vs out₀ out : List ℕ) (j at : ℕ) : Type 0 where
+  pub long : at ≡ length (file s (top_down is vs j))
+  pub put : out ≡ placed out₀ 0 (file s (top_down is vs j))
 
-pub none_wrote : {s out : List ℕ} {es : List Entry} → Wrote s es out out 0 0
+pub none_wrote : {s is vs out : List ℕ} → Wrote s is vs out out 0 0
 unfolding file encode_all
 none_wrote {out = out} = record { long = refl; put = placed_none out 0 }
 
-module _ {s out₀ out : List ℕ} {es : List Entry} {j at : ℕ} (w : Wrote s es out₀ out j at) (n : ℕ) where
+module _ {s is vs out₀ out : List ℕ} {j at : ℕ} (w : Wrote s is vs out₀ out j at) (n : ℕ) where
   -- the next of the first n
   abbrev next : Entry
-  next = get_or (take n es) j (entry 0 0)
+  next = entry_here s is vs j
 
-  module _ (t : j < length (take n es)) (f : length (file s (top_down es n)) ≤ length out₀) where
-    l : j < n
-    l = omega (arith, t, length-take n es)
-
-    next_is : next ≡ get_or es j (entry 0 0)
-    next_is = get_or-take n es j (entry 0 0) l
-
-    pub asks_within : {c : ℕ} → Within c (top_down es n) → next.op < c
-    asks_within {c} h = rw next_is (within_at s es c n j h l)
+  module _ (l : j < n) (f : length (file s (top_down is vs n)) ≤ length out₀) where
+    pub asks_within : {c : ℕ} → Within c (top_down is vs n) → next.op < c
+    asks_within {c} h = within_at s is vs c n j h l
 
     pub asks_room : length out ≡ length out₀ → at + length (encode (op_of s next)) ≤ length out
-    asks_room m = rw next_is (omega (arith, written_room s es j n l, w.long, m, f))
+    asks_room m = omega (arith, written_room s is vs j n l, w.long, m, f)
 
-    pub wrote_more : {r : ℕ} {out' : List ℕ} → r ≡ at + length (encode (op_of s next)) → out' ≡ placed out at (encode (op_of s next)) → Wrote s es out₀ out' (j + 1) r
+    pub wrote_more : {r : ℕ} {out' : List ℕ} → r ≡ at + length (encode (op_of s next)) → out' ≡ placed out at (encode (op_of s next)) → Wrote s is vs out₀ out' (j + 1) r
     wrote_more a b =
         let o = encode (op_of s next) in
-        let m : written s es (j + 1) ≡ written s es j ++ o = written_more s es j ∙ ap (λ (e : Entry). written s es j ++ encode (op_of s e)) (sym next_is) in
-        let h : length (written s es j) ≤ length out₀ = omega (arith, written_room s es j n l, f) in
+        let m : written s is vs (j + 1) ≡ written s is vs j ++ o = written_more s is vs j in
+        let h : length (written s is vs j) ≤ length out₀ = omega (arith, written_room s is vs j n l, f) in
         record {
-          long = a ∙ ap (λ (a : ℕ). a + length o) w.long ∙ sym (length-append (written s es j) o) ∙ ap length (sym m);
+          long = a ∙ ap (λ (a : ℕ). a + length o) w.long ∙ sym (length-append (written s is vs j) o) ∙ ap length (sym m);
           put =
               b
               ∙ ap (λ (o' : List ℕ). placed o' at o) w.put
-              ∙ placed_then out₀ 0 (written s es j) o at (zero-add (length (written s es j)) ∙ sym w.long) (rw w.long h)
+              ∙ placed_then out₀ 0 (written s is vs j) o at (zero-add (length (written s is vs j)) ∙ sym w.long) (rw w.long h)
               ∙ ap (placed out₀ 0) (sym m);
         }
 
-pub wrote_all : {s out₀ out : List ℕ} {es : List Entry} {n j at : ℕ} → Wrote s es out₀ out j at → j ≡ n
-    → (at ≡ length (file s (top_down es n))) × (out ≡ fill (file s (top_down es n)) out₀)
+pub wrote_all : {s is vs out₀ out : List ℕ} {n j at : ℕ} → Wrote s is vs out₀ out j at → j ≡ n
+    → (at ≡ length (file s (top_down is vs n))) × (out ≡ fill (file s (top_down is vs n)) out₀)
 unfolding fill placed
-wrote_all {s = s} {out₀ = out₀} {es = es} w e =
-    (w.long ∙ ap (λ (k : ℕ). length (written s es k)) e, w.put ∙ rw zero-add (ap (λ (k : ℕ). written s es k ++ drop (length (written s es k)) out₀) e))
+wrote_all {s = s} {is = is} {vs = vs} {out₀ = out₀} w e =
+    (w.long ∙ ap (λ (k : ℕ). length (written s is vs k)) e, w.put ∙ rw zero-add (ap (λ (k : ℕ). written s is vs k ++ drop (length (written s is vs k)) out₀) e))

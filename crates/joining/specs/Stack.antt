@@ -80,13 +80,17 @@ abbrev pub push_on : List ℕ → List ℕ → List Entry → Entry → List Ent
 push_on ks ns [] x = x ∷ []
 push_on ks ns (y ∷ st) x = react_on ks (met ks ns y x) y st x (push_on ks ns st)
 
--- the first n entries, the last one first
-abbrev pub top_down : List Entry → ℕ → List Entry
-top_down es zero = []
-top_down es (suc n) = get_or es n (entry 0 0) ∷ top_down es n
+-- the first n entries of a list of ops and one of their values, the last one first
+abbrev pub top_down : List ℕ → List ℕ → ℕ → List Entry
+top_down is vs zero = []
+top_down is vs (suc n) = entry (get_or is n 0) (get_or vs n 0) ∷ top_down is vs n
 
 abbrev pub stack : Stack → List Entry
-stack st = top_down st.entries st.n
+stack st = top_down st.ops st.values st.n
+
+-- the entry at a place
+abbrev pub entry_in : Stack → ℕ → Entry
+entry_in st i = entry (get_or st.ops i 0) (get_or st.values i 0)
 
 -- ---- the file's ops
 

@@ -3,7 +3,6 @@ ghost use Rattle.std.specs.Prelude.{◌≡◌, ◌≤◌};
 ghost use Rattle.joining.specs.Stack.{stack, after};
 ghost use Rattle.joining.specs.Joined.{outcome, join_of};
 
-use crate::entry::Entry;
 use crate::source::Source;
 use crate::stack::Stack;
 use crate::write::write_all;
@@ -35,10 +34,7 @@ pub fn join(bytes: &[u8], out: &mut [u8]) -> Result<Joined, JoinError>
         read: &read,
         ops,
     };
-    let mut left = Stack {
-        entries: [Entry { op: 0, value: 0 }; Read::OPS],
-        n: 0,
-    };
+    let mut left = Stack::empty();
     push_all(&source, &mut left);
     let bytes = write_all(&source, &left, out);
     Ok(Joined { ops: left.n, bytes })

@@ -7,16 +7,40 @@ use crate::met::{Met, meets, total};
 use kind_table::row;
 use patch_reader::reader::Read;
 
-// The ops that are left: the first n entries, the last one on top. Memory is fixed, so the array has its count beside it.
+// The ops that are left: the first n entries, the last one on top. Memory is fixed, so the arrays have their count beside them; they are two, ops and
+// values, since an entry with both takes 16 bytes where these take 10.
 #[derive(Drop)]
 pub struct Stack {
-    pub entries: [Entry; Read::OPS],
+    pub ops: [u16; Read::OPS],
+    pub values: [u64; Read::OPS],
     pub n: usize,
     ghost few: { n ≤ most_ops },
 }
 
 impl Stack {
-    ghost use Rattle.joining.specs.Stack.{stack, moved_on, push_on};
+    ghost use Rattle.joining.specs.Stack.{entry_in, stack, moved_on, push_on};
+
+    // No entry.
+    pub fn empty() -> Stack
+        ensures { result.n ≡ 0 }
+    {
+        Stack {
+            ops: [0; Read::OPS],
+            values: [0; Read::OPS],
+            n: 0,
+        }
+    }
+
+    // The entry at a place.
+    pub fn entry(&self, at: usize) -> Entry
+        requires { at < most_ops }
+        ensures { result ≡ entry_in self.now at }
+    {
+        Entry {
+            op: self.ops[at],
+            value: self.values[at],
+        }
+    }
 
     // One more entry.
     pub fn put(&mut self, next: Entry)
@@ -24,7 +48,8 @@ impl Stack {
         ensures count { self.new.n ≡ self.old.n + 1 }
         ensures value { stack self.new ≡ next ∷ stack self.old }
     {
-        self.entries[self.n] = next;
+        self.ops[self.n] = next.op;
+        self.values[self.n] = next.value;
         self.n += 1;
     }
 
@@ -37,7 +62,10 @@ impl Stack {
         if self.n == 0 {
             return self.put(next);
         }
-        let last = self.entries[self.n - 1];
+        let last = Entry {
+            op: self.ops[self.n - 1],
+            value: self.values[self.n - 1],
+        };
         if last.seen(read).row != row::MOVE {
             return self.put(next);
         }
@@ -45,7 +73,7 @@ impl Stack {
         if sum == 0 {
             self.n -= 1;
         } else {
-            self.entries[self.n - 1].value = sum;
+            self.values[self.n - 1] = sum;
         }
     }
 
@@ -58,7 +86,10 @@ impl Stack {
         if self.n == 0 {
             return self.put(next);
         }
-        let last = self.entries[self.n - 1];
+        let last = Entry {
+            op: self.ops[self.n - 1],
+            value: self.values[self.n - 1],
+        };
         match meets(last.seen(read), next.seen(read)) {
             Met::Push => self.put(next),
             Met::Skip => {}
@@ -76,7 +107,7 @@ impl Stack {
                 self.push(read, next);
                 self.put_move(read, last);
             }
-            Met::Sum(sum) => self.entries[self.n - 1].value = sum,
+            Met::Sum(sum) => self.values[self.n - 1] = sum,
         }
     }
 }

@@ -47,8 +47,8 @@ pub fn write_all(source: &Source, left: &Stack, out: &mut [u8]) -> usize
     ensures value { out.new ≡ fill (file source.now.bytes.now (stack left.now)) out.old }
 {
     let mut at = 0;
-    for entry in &left.entries[..left.n] {
-        at = write_op(source, *entry, out, at);
+    for i in 0..left.n {
+        at = write_op(source, left.entry(i), out, at);
     }
     at
 }

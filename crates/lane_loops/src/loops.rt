@@ -67,13 +67,15 @@ pub fn swap_lanes(register: &mut [u64], cells: &mut [u64], n: usize)
     register[..n].swap_with_slice(&mut cells[..n]);
 }
 
-// The first n values of one slice, to the start of the other.
+// The first n values of one slice, to the start of the other. By index: `copy_from_slice` would have an archive ask for `memmove` from outside.
 pub fn copy_lanes(to: &mut [u64], from: &[u64], n: usize)
     requires n_in_bounds { n ≤ length to.old }
     requires n_in_bounds_2 { n ≤ length from.now }
     ensures { to.new ≡ zip_to beside n to.old from.now }
 {
-    to[..n].copy_from_slice(&from[..n]);
+    for at in 0..n {
+        to[at] = from[at];
+    }
 }
 
 // The first value of one slice, to the start of the other.

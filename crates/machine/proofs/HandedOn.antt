@@ -34,11 +34,11 @@ told_place l z = rw (ne_eqb l.number 0 z) refl
 
 module _ (s : List ℕ) (q : Patch) (e : q ≡ patch_read s) where
   -- what reading answered
-  many : q.ops ≡ length (patch_of s).items
+  pub many : q.ops ≡ length (patch_of s).items
   unfolding patch_read
   many = rw e (told_ops s _ refl)
 
-  number_is : q.number ≡ (patch_of s).number
+  pub number_is : q.number ≡ (patch_of s).number
   unfolding patch_read
   number_is = rw e (told_number (patch_of s))
 
@@ -58,7 +58,7 @@ module _ (s : List ℕ) (q : Patch) (e : q ≡ patch_read s) where
   unfolding patch_read
   found = rw rows_are (rw e (refl, (refl, (omega (arith, few_functions s), refl))))
 
-  many_marks : length q.marks ≡ most_marks
+  pub many_marks : length q.marks ≡ most_marks
   many_marks = let n = length-replicate {A = ℕ} most_marks nowhere in end_long _ _ _ q.first (found.1.1.0 ∙ sym n) found.1.1.1 ∙ n
 
   pub is_handed : q.number ≡ 0

@@ -155,7 +155,7 @@ module _ (s input : List ℕ) (c : Held) (h : Fits s input c) where
     no_lane _ (stops n l z) o q a = absurd (eqb-false n 0 z (sym (ap (λ (d : After). d.number) q) ∙ a))
 
 -- the op at the position is one of the patch's
-op_here : (s input : List ℕ) (x : Code) (c : Held) → ReadyToRun s input x c → over_of c.numbers (length x.rows) ≡ false
+pub op_here : (s input : List ℕ) (x : Code) (c : Held) → ReadyToRun s input x c → over_of c.numbers (length x.rows) ≡ false
     → (c.numbers.position < length x.rows) × (length x.rows ≤ most_ops)
 op_here s input x c h e =
     let n : length x.rows ≡ length (patch_of s).items = ap (λ (y : Code). length y.rows) h.read ∙ many_rows s in

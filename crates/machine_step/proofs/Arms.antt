@@ -39,7 +39,7 @@ lane_family_lem : (f : ℕ) → cond (is_lane f) false true ≡ false → is_lan
 lane_family_lem f e = by_case (is_lane f) (λ t. t) (λ t. t ∙ sym (rw t at e))
 
 module _ {k n a : ℕ} {x : Code} {c : Held} (h : CanOp k n a x c) where
-  key : {j : ℕ} → k % 64 ≡ j → k ≡ j
+  pub key : {j : ℕ} → k % 64 ≡ j → k ≡ j
   key e = row_is h.payload.known e
 
   -- the op that answers r and sets the numbers q, and what it leaves of the lists

@@ -7,7 +7,7 @@ ghost use Rattle.patch_check.specs.File.{check_of};
 use crate::rows::{after_of, elses_of, ends_of, need_of, opens_of};
 use answers::check::{CheckError, Verdict};
 use ops::records::Record;
-use patch_reader::reader::{Read, load};
+use patch_reader::reader::{Read, load_columns};
 
 // Where the outermost open bracket stands: at op i if no bracket is open before it, else where it stood.
 #[tactic(auto, unfolding(crate::specs::Rows::outermost_of))]
@@ -52,7 +52,11 @@ fn check_ops(rows: &[u8], counts: &[u16]) -> Verdict
 pub fn check(bytes: &[u8]) -> Verdict
     ensures { result ≡ check_of bytes.now }
 {
-    let mut read = Read::blank();
-    let count = load(bytes, &mut read)?;
-    check_ops(&read.rows[..count], &read.counts[..count])
+    // column by column, since it looks at two of them alone
+    let mut rows = [0; Read::OPS];
+    let mut counts = [0; Read::OPS];
+    let mut needs = [0; Read::OPS];
+    let mut payloads = [0; Read::OPS];
+    let count = load_columns(bytes, &mut rows, &mut counts, &mut needs, &mut payloads)?;
+    check_ops(&rows[..count], &counts[..count])
 }

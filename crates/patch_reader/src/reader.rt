@@ -78,6 +78,30 @@ pub fn load(bytes: &[u8], read: &mut Read) -> Result<usize, Unread>
     ensures needs_after { read.new.needs ≡ fill (map need_in (patch_of bytes.now).items) read.old.needs }
     ensures payloads_after { read.new.payloads ≡ fill (map payload_in (patch_of bytes.now).items) read.old.payloads }
 {
+    load_columns(
+        bytes,
+        &mut read.rows,
+        &mut read.counts,
+        &mut read.needs,
+        &mut read.payloads,
+    )
+}
+
+// The same with the columns lent one by one: of those that a caller looks at no more nothing is left in the compiled code, where of a `Read` all four are
+// made and written.
+pub fn load_columns(
+    bytes: &[u8],
+    rows: &mut [u8; Read::OPS],
+    counts: &mut [u16; Read::OPS],
+    needs: &mut [u16; Read::OPS],
+    payloads: &mut [u32; Read::OPS],
+) -> Result<usize, Unread>
+    ensures value { result ≡ read_of (patch_of bytes.now) }
+    ensures rows_after { rows.new ≡ fill (map row_in (patch_of bytes.now).items) rows.old }
+    ensures counts_after { counts.new ≡ fill (map count_in (patch_of bytes.now).items) counts.old }
+    ensures needs_after { needs.new ≡ fill (map need_in (patch_of bytes.now).items) needs.old }
+    ensures payloads_after { payloads.new ≡ fill (map payload_in (patch_of bytes.now).items) payloads.old }
+{
     if Record::FILE < bytes.len() {
         return Err(Unread::new(Refusal::FileTooLong.at(0), 0));
     }
@@ -99,10 +123,10 @@ pub fn load(bytes: &[u8], read: &mut Read) -> Result<usize, Unread>
             return Err(Unread::new(Refusal::TooManyMarks.at(at), n));
         }
         let need = run_need(record.row, record.count);
-        read.rows[n] = record.row as u8;
-        read.counts[n] = record.count as u16;
-        read.needs[n] = need as u16;
-        read.payloads[n] = record.body as u32;
+        rows[n] = record.row as u8;
+        counts[n] = record.count as u16;
+        needs[n] = need as u16;
+        payloads[n] = record.body as u32;
         n += 1;
         marks = more;
         at = record.next;

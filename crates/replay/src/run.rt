@@ -166,17 +166,14 @@ impl Lent<'_> {
     }
 }
 
-// Lays its storage out, lends as much of it as the case says, runs, and compares.
-pub fn replay(tell: Tell, way: Way, file: &[u8], case: &[u8]) -> Result<bool, Damaged> {
-    let mut reader = Reader::new(case);
-    let Given {
-        budget,
-        inputs,
-        slices,
-        start,
-    } = Given::read(&mut reader, way)?;
-    let expected = Expected::read(&mut reader)?;
-    reader.end()?;
+// Lays its storage out, lends as much of it as the case says, runs, and compares. The storage comes first: what is made behind a question mark is zeroed
+// once more when the function begins.
+fn run(
+    tell: Tell,
+    file: &[u8],
+    given: Given<'_>,
+    expected: &Expected<'_>,
+) -> Result<bool, Damaged> {
     let mut input = [0u64; INPUTS];
     let mut tape = [0u64; CELLS];
     let mut register = [0u64; LANES];
@@ -184,6 +181,12 @@ pub fn replay(tell: Tell, way: Way, file: &[u8], case: &[u8]) -> Result<bool, Da
     let mut channel = [0u64; PLACES];
     let mut output = [0u64; OUTPUTS];
     let mut tally = [0u64; COUNTS];
+    let Given {
+        budget,
+        inputs,
+        slices,
+        start,
+    } = given;
     for (value, bytes) in input.iter_mut().zip(inputs) {
         *value = u64::from_le_bytes(*bytes);
     }
@@ -200,4 +203,13 @@ pub fn replay(tell: Tell, way: Way, file: &[u8], case: &[u8]) -> Result<bool, Da
     };
     let r = lent.start(file, start, budget);
     Ok(expected.same(tell, &r) && expected.same_slices(tell, &lent))
+}
+
+// Reads the case whole, and then runs it.
+pub fn replay(tell: Tell, way: Way, file: &[u8], case: &[u8]) -> Result<bool, Damaged> {
+    let mut reader = Reader::new(case);
+    let given = Given::read(&mut reader, way)?;
+    let expected = Expected::read(&mut reader)?;
+    reader.end()?;
+    run(tell, file, given, &expected)
 }

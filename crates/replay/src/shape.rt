@@ -41,6 +41,21 @@ impl<'a> Expected<'a> {
     }
 }
 
+// Joins into storage of its own, and compares. Here and in `flat` the storage comes first: what is made behind a question mark is zeroed once more when
+// the function begins.
+fn joined(
+    tell: Tell,
+    file: &[u8],
+    room: usize,
+    fill: u8,
+    expected: Expected<'_>,
+) -> Result<bool, Damaged> {
+    let mut storage = [fill; ROOM];
+    let out = storage.get_mut(..room).ok_or(Damaged)?;
+    let answer = join(file, out);
+    Ok(expected.same(tell, answer, length_of(answer)) && expected.same_bytes(tell, fill, out))
+}
+
 // Joining: room, fill and what is expected.
 pub fn replay_join(tell: Tell, file: &[u8], case: &[u8]) -> Result<bool, Damaged> {
     let mut reader = Reader::new(case);
@@ -48,10 +63,7 @@ pub fn replay_join(tell: Tell, file: &[u8], case: &[u8]) -> Result<bool, Damaged
     let fill = reader.byte()?;
     let expected = Expected::read(&mut reader)?;
     reader.end()?;
-    let mut storage = [fill; ROOM];
-    let out = storage.get_mut(..room).ok_or(Damaged)?;
-    let answer = join(file, out);
-    Ok(expected.same(tell, answer, length_of(answer)) && expected.same_bytes(tell, fill, out))
+    joined(tell, file, room, fill, expected)
 }
 
 // One number of each body, which stands so many bytes on in it.
@@ -77,15 +89,16 @@ fn same_bodies(
     true
 }
 
-// Flattening: room, fill, body room and what is expected, the bodies last.
-pub fn replay_flatten(tell: Tell, file: &[u8], case: &[u8]) -> Result<bool, Damaged> {
-    let mut reader = Reader::new(case);
-    let room = reader.word()?;
-    let fill = reader.byte()?;
-    let body_room = reader.word()?;
-    let expected = Expected::read(&mut reader)?;
-    let bodies = reader.counted::<12>()?;
-    reader.end()?;
+// Flattens into storage of its own, and compares.
+fn flat(
+    tell: Tell,
+    file: &[u8],
+    room: usize,
+    fill: u8,
+    body_room: usize,
+    expected: Expected<'_>,
+    bodies: &[[u8; 12]],
+) -> Result<bool, Damaged> {
     let each = u32::from(fill);
     let mut storage = [fill; ROOM];
     let mut all_numbers = [each; BODIES];
@@ -104,4 +117,16 @@ pub fn replay_flatten(tell: Tell, file: &[u8], case: &[u8]) -> Result<bool, Dama
             && same_bodies(tell, b"first op of body", bodies, 4, fill, firsts)
             && same_bodies(tell, b"op count of body", bodies, 8, fill, counts),
     )
+}
+
+// Flattening: room, fill, body room and what is expected, the bodies last.
+pub fn replay_flatten(tell: Tell, file: &[u8], case: &[u8]) -> Result<bool, Damaged> {
+    let mut reader = Reader::new(case);
+    let room = reader.word()?;
+    let fill = reader.byte()?;
+    let body_room = reader.word()?;
+    let expected = Expected::read(&mut reader)?;
+    let bodies = reader.counted::<12>()?;
+    reader.end()?;
+    flat(tell, file, room, fill, body_room, expected, bodies)
 }

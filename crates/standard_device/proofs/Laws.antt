@@ -21,7 +21,7 @@ use Rattle.standard_device.specs.Post.{Lifted}
 use Rattle.standard_device.proofs.Whole.{Cut, root_in_cut, sq_lt, sq_back}
 
 -- ---- the floats between two steps of 53 digits
-digits_lt : (p : ℕ) → digits p < 2 ^ 53
+pub digits_lt : (p : ℕ) → digits p < 2 ^ 53
 digits_lt p = ⊎_elim
     (λ (l : p < 2 ^ 52). rw (lt-ltb p (2 ^ 52) l) (omega arith))
     (λ (g : 2 ^ 52 ≤ p). rw (le-ltb p (2 ^ 52) g) (omega arith))

@@ -91,10 +91,10 @@ finished m q rest w i v h =
     omega (arith, v.unread, k)
 
 -- ---- zeros behind the digits
-few : (d z : ℕ) → 0 < d → d * 2 ^ z < 2 ^ 53 → z < 53
+pub few : (d z : ℕ) → 0 < d → d * 2 ^ z < 2 ^ 53 → z < 53
 few d z p h = ⊎_elim (λ l. l) (λ (g : 53 ≤ z). absurd (omega (arith, pow_mono g, mul-le-mul_right (2 ^ z) p))) (lt_or_ge z 53)
 
-lifted : (d m z : ℕ) → 0 < d → m ≡ d * 2 ^ z → 2 ^ 52 ≤ m → m < 2 ^ 53 → Lifted d m z
+pub lifted : (d m z : ℕ) → 0 < d → m ≡ d * 2 ^ z → 2 ^ 52 ≤ m → m < 2 ^ 53 → Lifted d m z
 lifted d m z p e l h =
     let f : z < 53 = few d z p (omega arith) in
     let a : 2 ^ (53 - z) * 2 ^ z ≡ 2 ^ 53 = sym (pow-add 2 (53 - z) z) ∙ ap (λ (x : ℕ). 2 ^ x) (back 53 z (omega arith)) in

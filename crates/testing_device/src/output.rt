@@ -42,6 +42,16 @@ fn text_of(value: u64) -> Text
     text
 }
 
+// The values, from place `count` on. By index: `copy_from_slice` would have an archive ask for `memmove` from outside.
+fn copy(values: &[u64], output: &mut [u64], count: usize)
+    requires { count + length values.now ≤ length output.old }
+    ensures { output.new ≡ placed values.now output.old count }
+{
+    for i in 0..values.len() {
+        output[count + i] = values[i];
+    }
+}
+
 // The values from place `count` on, if there is room for all of them; no values need no room. The output count after them.
 fn place(values: &[u64], output: &mut [u64], count: usize) -> Option<usize>
     ensures { left result output.new ≡ put_in values.now output.old count }
@@ -53,7 +63,7 @@ fn place(values: &[u64], output: &mut [u64], count: usize) -> Option<usize>
         return None;
     }
     let end = count + values.len();
-    output[count..end].copy_from_slice(values);
+    copy(values, output, count);
     Some(end)
 }
 

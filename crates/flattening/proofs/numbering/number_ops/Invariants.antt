@@ -3,4 +3,4 @@ use Rattle.flattening.proofs.NumberingLoop.{Scoped}
 use Rattle.flattening.proofs.numbering.number_ops.Given as goal
 
 abbrev pub invariant-loop-i : goal.invariant-loop-i
-invariant-loop-i l = Scoped l.rows l.owner l.seen l.scope l.count l.i
+invariant-loop-i l = Scoped l.rows l.numbering.owner l.numbering.seen l.scope l.count l.i

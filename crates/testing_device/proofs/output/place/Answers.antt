@@ -1,9 +1,8 @@
 -- `testing_device::output::place` meets its contract. Assumes nothing.
-use Rattle.std.proofs.Common.{sym, refl, ◌∙◌, arith}
+use Rattle.std.proofs.Common.{sym, ◌∙◌, arith}
 use borrow.Author.Tests.{eqb-false}
-use Rattle.std.proofs.lemmas.Slice.{put_mid-paste}
 use Rattle.testing_device.specs.Room.{put_in}
-use Rattle.testing_device.proofs.Outputs.{no_room, all_room, placed_all}
+use Rattle.testing_device.proofs.Outputs.{no_room, all_room}
 use Rattle.testing_device.proofs.output.place.Goals as goal
 
 pub returns-then-is_empty : goal.returns-then-is_empty
@@ -17,4 +16,4 @@ pub returns : goal.returns
 returns c =
     let a = c.args in let some = sym c.is_empty.ensures ∙ c.if-is_empty.false in
     sym (all_room _ _ _ some (omega (arith, eqb-false _ _ some))
-    (put_mid-paste _ _ _ _ a.values.now _ c.copy_from_slice.ensures.after (omega arith) refl ∙ placed_all a.values.now a.output.now a.count _ refl))
+    c.copy.ensures)

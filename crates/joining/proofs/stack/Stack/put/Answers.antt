@@ -5,4 +5,4 @@ use Rattle.joining.proofs.Stacks.{top_down_put}
 use Rattle.joining.proofs.stack.Stack.put.Goals as goal
 
 pub returns-clause-value : goal.returns-clause-value
-returns-clause-value c = rw add-one (top_down_put c.args.self.now.entries c.args.self.now.n c.args.next (omega (arith, c.requires)))
+returns-clause-value c = let s = c.args.self.now in rw add-one (top_down_put s.ops s.values s.n c.args.next (omega (arith, c.requires)) (omega (arith, c.requires)))

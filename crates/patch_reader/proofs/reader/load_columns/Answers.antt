@@ -1,4 +1,4 @@
--- `patch_reader::reader::load` meets its contract. Assumes nothing.
+-- `patch_reader::reader::load_columns` meets its contract. Assumes nothing.
 use Rattle.patch_reader.proofs.Whole.{Tells, tells}
 use Rattle.patch_reader.proofs.Mapped.{mapped_ok, mapped_err}
 use Rattle.patch_reader.proofs.Reading.{need_few, too_long, start, finish_good, finish_bad, advance, found, walk_end, walk_bad, walk_full, walk_marks}
@@ -10,8 +10,8 @@ use Rattle.std.proofs.lemmas.Result.{err_from_is_err_and}
 use mathlib.Core.Path.{◌≡◌, ◌∙◌, sym, ap}
 use native.Mathlib.Omega.{arith}
 use borrow.Author.Rules.{rules}
-use Rattle.patch_reader.proofs.reader.load.Goals as goal
-use Rattle.patch_reader.proofs.reader.load.Goals.{In_ok-record}
+use Rattle.patch_reader.proofs.reader.load_columns.Goals as goal
+use Rattle.patch_reader.proofs.reader.load_columns.Goals.{In_ok-record}
 
 is_whole : (c : In_ok-record) → let r = c.in_ok-record.record in whole r.row r.body r.len r.count r.next ≡ record_at c.args.bytes.now c.loop-at.at
 is_whole c = found c.loop-at.invariant _ _ c.read_record.ensures (mapped_ok _ _ _ c.map_err.ensures.cases _ c.in_ok-record.was)
@@ -46,17 +46,17 @@ returns-then-more-gt-MARKS c =
     finish_bad c.loop-at.invariant _ _ _ (c.new-then-more-gt-MARKS.ensures ∙ ap (λ (f : Fault). unread f c.loop-at.n) c.at-then-more-gt-MARKS.ensures)
     (walk_marks _ _ _ _ _ _ _ _ _ c.loop-at-test.true w c.if-n-ge-OPS.false h)
 
-pub overflow_cast-read : goal.overflow_cast-read
-overflow_cast-read c = omega (arith, (says (goal.at.overflow_cast-read c).In_ok-record).small)
+pub overflow_cast-rows : goal.overflow_cast-rows
+overflow_cast-rows c = omega (arith, (says (goal.at.overflow_cast-rows c).In_ok-record).small)
 
-pub overflow_cast-read-in-loop-at : goal.overflow_cast-read-in-loop-at
-overflow_cast-read-in-loop-at c = omega (arith, (says (goal.at.overflow_cast-read-in-loop-at c).In_ok-record).few)
+pub overflow_cast-counts : goal.overflow_cast-counts
+overflow_cast-counts c = omega (arith, (says (goal.at.overflow_cast-counts c).In_ok-record).few)
 
-pub overflow_cast-read-in-loop-at-2 : goal.overflow_cast-read-in-loop-at-2
-overflow_cast-read-in-loop-at-2 c = omega (arith, need_few _ _ _ c.run_need-need.ensures (says (goal.at.overflow_cast-read-in-loop-at-2 c).In_ok-record).few)
+pub overflow_cast-needs : goal.overflow_cast-needs
+overflow_cast-needs c = omega (arith, need_few _ _ _ c.run_need-need.ensures (says (goal.at.overflow_cast-needs c).In_ok-record).few)
 
-pub overflow_cast-read-in-loop-at-3 : goal.overflow_cast-read-in-loop-at-3
-overflow_cast-read-in-loop-at-3 c = omega (arith, says (goal.at.overflow_cast-read-in-loop-at-3 c).In_ok-record, c.loop-at.invariant.short)
+pub overflow_cast-payloads : goal.overflow_cast-payloads
+overflow_cast-payloads c = omega (arith, says (goal.at.overflow_cast-payloads c).In_ok-record, c.loop-at.invariant.short)
 
 pub loop-at-smaller : goal.loop-at-smaller
 loop-at-smaller c = omega (arith, says (goal.at.loop-at-smaller c).In_ok-record)
