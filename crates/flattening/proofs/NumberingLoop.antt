@@ -16,7 +16,7 @@ use Rattle.machine_model.specs.Step.{enter}
 use Rattle.flattening.specs.Flatten.{Note, Numbered, named, has, fresh, number}
 use Rattle.flattening.specs.Flatten.Note.{enters, opens, closes, stays}
 use Rattle.flattening.specs.Flatten.Numbered.{stray, numbered}
-use Rattle.flattening.specs.Scope.{row_note, row_notes, here_of, Place, place, leads_to, stack_of, place_in, passed, Low, blank, listed, told}
+use Rattle.flattening.specs.Scope.{row_note, row_notes, here_of, Place, place, leads_to, stack_of, place_in, passed, Low, listed, told}
 use Rattle.flattening.specs.declared.numbering.Left.{Left}
 use Rattle.flattening.specs.declared.numbering.NoOpenEnd.{NoOpenEnd}
 use Rattle.flattening.specs.declared.numbering.Numbering.{Numbering}
@@ -134,18 +134,17 @@ main_low = record {
   around = All-replicate (λ l. (l.body ≤ 0) × (l.brackets ≤ 0)) 4097 (record { body = 0; brackets = 0 }) (omega arith, omega arith);
 }
 
-pub begin : (ks : List ℕ) (x : Numbering) (s : Scope) → x ≡ blank → place_in s ≡ place 0 0 [] → Low 0 s → Scoped ks x.owner x.seen s 0 0
-unfolding blank
-begin ks x s h e l =
-    let hs : x.seen ≡ replicate 4097 false = ap (λ (y : Numbering). y.seen) h in
-    let z : listed 0 x.seen ≡ [] = ap (listed 0) hs ∙ listed_none 4097 0 in
+pub begin : (ks owner : List ℕ) (seen : List Bool) (s : Scope) → length owner ≡ 4096 → seen ≡ replicate 4097 false → place_in s ≡ place 0 0 [] → Low 0 s
+    → Scoped ks owner seen s 0 0
+begin ks owner seen s ho hs e l =
+    let z : listed 0 seen ≡ [] = ap (listed 0) hs ∙ listed_none 4097 0 in
     record {
       upto = omega arith;
-      rest = ap (λ (p : Place). number 0 p.body p.brackets p.around (listed 0 x.seen) (row_notes ks)) e ∙ ap (λ (ys : List ℕ). number 0 0 0 [] ys (row_notes ks)) z;
+      rest = ap (λ (p : Place). number 0 p.body p.brackets p.around (listed 0 seen) (row_notes ks)) e ∙ ap (λ (ys : List ℕ). number 0 0 0 [] ys (row_notes ks)) z;
       counted = sym (ap length z);
       few = omega arith;
       low = l;
-      owners = ap (λ (y : Numbering). length y.owner) h ∙ length-replicate {A = ℕ} 4096 0;
+      owners = ho;
       flags = ap length hs ∙ length-replicate {A = Bool} 4097 false;
     }
 

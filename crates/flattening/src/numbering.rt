@@ -129,7 +129,7 @@ impl Numbering {
 // `Read` is, since by value it would be copied.
 pub fn number_ops(rows: &[u8], numbering: &mut Numbering) -> Result<(), NoOpenEnd>
     requires few { length rows.now ≤ most_ops }
-    requires blank { numbering.old ≡ blank }
+    requires unseen { numbering.old.seen ≡ replicate most_bodies false }
     ensures { told result numbering.new (length rows.now) ≡ number 0 0 0 [] [] (row_notes rows.now) }
 {
     let mut scope = Scope::main();

@@ -67,7 +67,9 @@ pub fn swap_lanes(register: &mut [u64], cells: &mut [u64], n: usize)
     register[..n].swap_with_slice(&mut cells[..n]);
 }
 
-// The first n values of one slice, to the start of the other. By index: `copy_from_slice` would have an archive ask for `memmove` from outside.
+// The first n values of one slice, to the start of the other. By index: `copy_from_slice` would have an archive ask for `memmove` from outside. Out of
+// line: with this loop in the one function that a run is compiled to, Rem over 64 lanes took half as much time again.
+#[inline(never)]
 pub fn copy_lanes(to: &mut [u64], from: &[u64], n: usize)
     requires n_in_bounds { n ≤ length to.old }
     requires n_in_bounds_2 { n ≤ length from.now }

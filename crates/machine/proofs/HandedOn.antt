@@ -28,7 +28,7 @@ told_number : (l : Loaded) → (told_of (read_of l)).number ≡ l.number
 unfolding read_of
 told_number l = by_case (eqb l.number 0) (λ t. rw t (sym (eqb-true l.number 0 t))) (λ f. rw f refl)
 
-told_place : (l : Loaded) → (l.number ≡ 0 → ⊥) → (told_of (read_of l)).place ≡ l.place
+pub told_place : (l : Loaded) → (l.number ≡ 0 → ⊥) → (told_of (read_of l)).place ≡ l.place
 unfolding read_of
 told_place l z = rw (ne_eqb l.number 0 z) refl
 

@@ -30,16 +30,18 @@ fn digits_of(n: u64) -> Text
     Text { chars, from: i }
 }
 
+// Here and in `put_int` the parts are taken out of the struct: changed in its place, it is copied once more for each function that hands it on.
 fn text_of(value: u64) -> Text
     ensures { (drop result.from result.chars ≡ written value) × (result.from < 20) }
 {
     if value < 0x8000000000000000 {
         return digits_of(value);
     }
-    let mut text = digits_of((u64::MAX - value) + 1);
-    text.from -= 1;
-    text.chars[text.from] = 45;
-    text
+    let digits = digits_of((u64::MAX - value) + 1);
+    let mut chars = digits.chars;
+    let from = digits.from - 1;
+    chars[from] = 45;
+    Text { chars, from }
 }
 
 // The values, from place `count` on. By index: `copy_from_slice` would have an archive ask for `memmove` from outside.
@@ -71,7 +73,9 @@ fn put_int(value: u64, output: &mut [u64], count: usize) -> Option<usize>
     ensures { left result output.new ≡ put_in (written value) output.old count }
 {
     let text = text_of(value);
-    place(&text.chars[text.from..], output, count)
+    let chars = text.chars;
+    let from = text.from;
+    place(&chars[from..], output, count)
 }
 
 fn put_char(value: u64, output: &mut [u64], count: usize) -> Option<usize>

@@ -5,7 +5,7 @@ use Rattle.flattening.proofs.NumberingLoop.{begin, stray_end_lem, next, done}
 use Rattle.flattening.proofs.numbering.number_ops.Goals as goal
 
 pub loop-i-init : goal.loop-i-init
-loop-i-init c = begin _ _ _ c.requires.blank c.main-scope.ensures.0 c.main-scope.ensures.1
+loop-i-init c = begin _ _ _ _ (search rules) c.requires.unseen c.main-scope.ensures.0 c.main-scope.ensures.1
 
 pub returns-in_err-ok_or : goal.returns-in_err-ok_or
 returns-in_err-ok_or c =

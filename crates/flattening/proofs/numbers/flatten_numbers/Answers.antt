@@ -1,11 +1,13 @@
 -- `flattening::numbers::flatten_numbers` meets its contract. Assumes nothing.
-use Rattle.std.proofs.Common.{◌≡◌, Err, length, sym, arith}
+use Rattle.std.proofs.Common.{◌≡◌, Err, length, ap, sym, arith}
 use Rattle.std.proofs.lemmas.List.{length-take-le}
 use borrow.Author.Rules.{rules}
 use Rattle.answers.specs.Flatten.{bad_file}
 use Rattle.answers.specs.declared.flatten.FlattenError.TheVariants.{NoOpenEnd}
 use Rattle.flattening.proofs.File.{few_ops, few_rows, stray_file, short, can_write, written_file}
 use Rattle.flattening.proofs.File as file
+use Rattle.flattening.specs.Scope.{blank}
+use Rattle.flattening.specs.declared.numbering.Numbering.{Numbering}
 use Rattle.flattening.proofs.numbers.flatten_numbers.Goals as goal
 
 pub returns-in_err-ops : goal.returns-in_err-ops
@@ -21,7 +23,8 @@ slice_bounds-rows-end c =
     let e : length c.load_rows.new.rows ≡ 4096 = search rules in sym (length-take-le _ _ (omega (arith, few_ops _ _ c.in_ok-ops.ensures.value, e)))
 
 pub number_ops-requires : goal.number_ops-requires
-number_ops-requires c = record { few = few_rows _ _ c.in_ok-ops.ensures.value _ _ c.load_rows.ensures.rows_after; blank = c.blank-numbering.ensures }
+unfolding blank
+number_ops-requires c = record { few = few_rows _ _ c.in_ok-ops.ensures.value _ _ c.load_rows.ensures.rows_after; unseen = ap (λ (x : Numbering). x.seen) c.blank-numbering.ensures }
 
 pub returns-in_err-number_ops : goal.returns-in_err-number_ops
 returns-in_err-number_ops c =
