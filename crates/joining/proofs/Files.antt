@@ -21,7 +21,6 @@ use Rattle.file_laws.proofs.Rewritten.{bytes_back}
 use Rattle.joining.specs.Join.{join}
 use Rattle.joining.specs.Joined.{outcome, joined_as, join_of}
 use Rattle.joining.specs.Source.{Holds}
-use Rattle.joining.specs.declared.entry.Entry.{Entry}
 use Rattle.joining.specs.declared.stack.Stack.{Stack}
 use Rattle.joining.specs.Stack.{stack, top_down, after, op_of, file, Within}
 use Rattle.ops.specs.Syntax.{Op}

@@ -10,7 +10,6 @@ use mathlib.Core.List.{List, [], ◌∷◌, ◌++◌, map, reverse, reverse-cons
 use lib.Dec.{eqb}
 use lib.ListN.{length, get_or, take, drop, length-append}
 use lib.Seq.{take_at}
-use Rattle.std.proofs.lemmas.List.{get_or-take, length-take}
 use borrow.Author.Tests.{eqb-true, eqb-false, eq-eqb, ne_eqb}
 use Rattle.basics.proofs.Clash.{clash}
 use Rattle.byte_fields.specs.Bytes.{u32_at, u64_at, values_at, text_at, le16, le32, le64}

@@ -22,13 +22,13 @@ pub struct Seen {
 
 impl Entry {
     // Its row and its count are 0 beyond the last op.
-    pub fn seen(self, read: &Read) -> Seen
-        ensures { result ≡ seen_of read.now.rows read.now.counts self }
+    pub fn seen(self, rows: &[u8; Read::OPS], counts: &[u16; Read::OPS]) -> Seen
+        ensures { result ≡ seen_of rows.now counts.now self }
     {
         let at = usize::from(self.op);
         Seen {
-            row: read.rows.get(at).copied().unwrap_or(0),
-            count: read.counts.get(at).copied().unwrap_or(0),
+            row: rows.get(at).copied().unwrap_or(0),
+            count: counts.get(at).copied().unwrap_or(0),
             value: self.value,
         }
     }

@@ -7,16 +7,16 @@ use crate::source::Source;
 use crate::stack::Stack;
 use crate::write::write_all;
 use answers::join::{JoinError, Joined};
-use patch_reader::reader::{Read, load};
+use patch_reader::reader::{Read, load_columns};
 
 // Each of the file's ops pushed in turn, on no entry.
 fn push_all(source: &Source, left: &mut Stack)
     ensures few { left.new.n ≤ source.now.ops }
-    ensures value { stack left.new ≡ after source.now.bytes.now source.now.read.now.rows source.now.read.now.counts source.now.ops }
+    ensures value { stack left.new ≡ after source.now.bytes.now source.now.rows.now source.now.counts.now source.now.ops }
 {
     left.n = 0;
     for i in 0..source.ops {
-        left.push(source.read, source.entry(i as u16));
+        left.push(source.rows, source.counts, source.entry(i as u16));
     }
 }
 
@@ -24,14 +24,19 @@ fn push_all(source: &Source, left: &mut Stack)
 pub fn join(bytes: &[u8], out: &mut [u8]) -> Result<Joined, JoinError>
     ensures { outcome result out.new ≡ join_of bytes.now out.old }
 {
-    let mut read = Read::blank();
-    let ops = load(bytes, &mut read)?;
+    let mut rows = [0u8; Read::OPS];
+    let mut counts = [0u16; Read::OPS];
+    let mut needs = [0u16; Read::OPS];
+    let mut payloads = [0u32; Read::OPS];
+    let ops = load_columns(bytes, &mut rows, &mut counts, &mut needs, &mut payloads)?;
     if out.len() < bytes.len() {
         return Err(JoinError::NoRoom);
     }
     let source = Source {
         bytes,
-        read: &read,
+        rows: &rows,
+        counts: &counts,
+        payloads: &payloads,
         ops,
     };
     let mut left = Stack::empty();

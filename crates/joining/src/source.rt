@@ -7,14 +7,16 @@ use crate::entry::Entry;
 use byte_fields::read::u64_at;
 use patch_reader::reader::Read;
 
-// Its bytes, and its ops: the first entries of the columns, whose memory is fixed.
+// Its bytes, and its ops: the first entries of the columns, whose memory is fixed. Three of the four: joining asks for no need.
 #[derive(Clone, Copy)]
 pub struct Source<'a> {
     pub bytes: &'a [u8],
-    pub read: &'a Read,
+    pub rows: &'a [u8; Read::OPS],
+    pub counts: &'a [u16; Read::OPS],
+    pub payloads: &'a [u32; Read::OPS],
     pub ops: usize,
     ghost few: { ops ≤ most_ops },
-    ghost holds: { Holds bytes.now read.now.rows read.now.counts read.now.payloads ops },
+    ghost holds: { Holds bytes.now rows.now counts.now payloads.now ops },
 }
 
 impl Source<'_> {
@@ -22,9 +24,11 @@ impl Source<'_> {
 
     // The first byte of op i's payload; 0 beyond the last.
     pub fn payload(&self, i: u16) -> usize
-        ensures { result ≡ get_or self.now.read.now.payloads i 0 }
+        ensures { result ≡ get_or self.now.payloads.now i 0 }
     {
-        self.read.payloads.get(usize::from(i)).copied().unwrap_or(0) as usize
+        // the reference is copied first, since the check doesn't cover a slice lent from the field
+        let payloads = self.payloads;
+        payloads.get(usize::from(i)).copied().unwrap_or(0) as usize
     }
 
     // Op i with the value that it has in the file; 0 where it has none.
@@ -33,7 +37,7 @@ impl Source<'_> {
         ensures { result ≡ entry_at self.now.bytes.now i }
     {
         let none = Entry { op: i, value: 0 };
-        if !none.seen(self.read).has_value() {
+        if !none.seen(self.rows, self.counts).has_value() {
             return none;
         }
         Entry {

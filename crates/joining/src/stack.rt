@@ -54,10 +54,10 @@ impl Stack {
     }
 
     // The push of a move.
-    pub fn put_move(&mut self, read: &Read, next: Entry)
+    pub fn put_move(&mut self, rows: &[u8; Read::OPS], counts: &[u16; Read::OPS], next: Entry)
         requires { self.old.n < most_ops }
         ensures few { self.new.n ≤ self.old.n + 1 }
-        ensures value { stack self.new ≡ moved_on read.now.rows (stack self.old) next }
+        ensures value { stack self.new ≡ moved_on rows.now (stack self.old) next }
     {
         if self.n == 0 {
             return self.put(next);
@@ -66,7 +66,7 @@ impl Stack {
             op: self.ops[self.n - 1],
             value: self.values[self.n - 1],
         };
-        if last.seen(read).row != row::MOVE {
+        if last.seen(rows, counts).row != row::MOVE {
             return self.put(next);
         }
         let sum = total(last.value, next.value);
@@ -78,10 +78,10 @@ impl Stack {
     }
 
     // The push of an op.
-    pub fn push(&mut self, read: &Read, next: Entry)
+    pub fn push(&mut self, rows: &[u8; Read::OPS], counts: &[u16; Read::OPS], next: Entry)
         requires { self.old.n < most_ops }
         ensures few { self.new.n ≤ self.old.n + 1 }
-        ensures value { stack self.new ≡ push_on read.now.rows read.now.counts (stack self.old) next }
+        ensures value { stack self.new ≡ push_on rows.now counts.now (stack self.old) next }
     {
         if self.n == 0 {
             return self.put(next);
@@ -90,22 +90,22 @@ impl Stack {
             op: self.ops[self.n - 1],
             value: self.values[self.n - 1],
         };
-        match meets(last.seen(read), next.seen(read)) {
+        match meets(last.seen(rows, counts), next.seen(rows, counts)) {
             Met::Push => self.put(next),
             Met::Skip => {}
             Met::Pop => self.n -= 1,
             Met::Again => {
                 self.n -= 1;
-                self.push(read, next);
+                self.push(rows, counts, next);
             }
             Met::Test(value) => {
                 self.n -= 1;
-                self.push(read, Entry { op: last.op, value });
+                self.push(rows, counts, Entry { op: last.op, value });
             }
             Met::Under => {
                 self.n -= 1;
-                self.push(read, next);
-                self.put_move(read, last);
+                self.push(rows, counts, next);
+                self.put_move(rows, counts, last);
             }
             Met::Sum(sum) => self.values[self.n - 1] = sum,
         }

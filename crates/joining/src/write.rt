@@ -28,7 +28,7 @@ pub fn write_op(source: &Source, entry: Entry, out: &mut [u8], at: usize) -> usi
     ensures value { out.new ≡ placed out.old at (encode (op_of source.now.bytes.now entry)) }
 {
     let from = source.payload(entry.op) - 6;
-    if entry.seen(source.read).has_value() {
+    if entry.seen(source.rows, source.counts).has_value() {
         copy_bytes(out, at, source.bytes, from, 6);
         put_u64(out, at + 6, entry.value);
         return at + 14;

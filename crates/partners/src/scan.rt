@@ -113,6 +113,10 @@ pub fn find_partners(
     ensures turns_after { turns.new ≡ fill (turns_of rows.now) turns.old }
     ensures rows_value { (result + length (functions_of rows.now) ≡ most_marks) × (marks.new ≡ fill_end (functions_of rows.now) marks.old) }
 {
+    // no op, no frames to make
+    if rows.is_empty() {
+        return Read::MARKS;
+    }
     let mut frames = Frames {
         ends: [NOWHERE; FRAMES],
         elses: [NOWHERE; FRAMES],

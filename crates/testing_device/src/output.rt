@@ -13,35 +13,36 @@ struct Text {
 }
 
 // One place stays free for a sign. The last digit comes first, and how many there are is known only at the end: there is no range to go through.
+// The text is changed in its place, as below: made of its parts at the end it is copied.
 fn digits_of(n: u64) -> Text
     requires { n < 10 ^ 19 }
     ensures { (drop result.from result.chars ≡ decimal 20 n) × (0 < result.from) × (result.from < 20) }
 {
-    let mut chars = [0u64; 20];
-    let mut i: usize = 20;
+    let mut text = Text {
+        chars: [0; 20],
+        from: 20,
+    };
     let mut rest = n;
     while 10 <= rest {
-        i -= 1;
-        chars[i] = 48 + rest % 10;
+        text.from -= 1;
+        text.chars[text.from] = 48 + rest % 10;
         rest /= 10;
     }
-    i -= 1;
-    chars[i] = 48 + rest;
-    Text { chars, from: i }
+    text.from -= 1;
+    text.chars[text.from] = 48 + rest;
+    text
 }
 
-// Here and in `put_int` the parts are taken out of the struct: changed in its place, it is copied once more for each function that hands it on.
 fn text_of(value: u64) -> Text
     ensures { (drop result.from result.chars ≡ written value) × (result.from < 20) }
 {
     if value < 0x8000000000000000 {
         return digits_of(value);
     }
-    let digits = digits_of((u64::MAX - value) + 1);
-    let mut chars = digits.chars;
-    let from = digits.from - 1;
-    chars[from] = 45;
-    Text { chars, from }
+    let mut text = digits_of((u64::MAX - value) + 1);
+    text.from -= 1;
+    text.chars[text.from] = 45;
+    text
 }
 
 // The values, from place `count` on. By index: `copy_from_slice` would have an archive ask for `memmove` from outside.
@@ -73,9 +74,7 @@ fn put_int(value: u64, output: &mut [u64], count: usize) -> Option<usize>
     ensures { left result output.new ≡ put_in (written value) output.old count }
 {
     let text = text_of(value);
-    let chars = text.chars;
-    let from = text.from;
-    place(&chars[from..], output, count)
+    place(&text.chars[text.from..], output, count)
 }
 
 fn put_char(value: u64, output: &mut [u64], count: usize) -> Option<usize>

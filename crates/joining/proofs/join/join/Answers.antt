@@ -5,7 +5,7 @@ use Rattle.joining.proofs.Files.{all_below, refused, no_room, holds, all_within,
 use Rattle.joining.proofs.join.join.Goals as goal
 use Rattle.joining.proofs.join.join.Goals.{In_ok-ops}
 
-held : (c : In_ok-ops) → let r = c.load.new.read in Holds c.args.bytes.now r.rows r.counts r.payloads c.in_ok-ops.ops
+held : (c : In_ok-ops) → let r = c.load_columns.new in Holds c.args.bytes.now r.rows r.counts r.payloads c.in_ok-ops.ops
 held c =
     let e = c.in_ok-ops.ensures in
     holds _ _ (good_ops _ _ e.value) _ _ _ _ _ _ e.rows_after e.counts_after e.payloads_after

@@ -8,5 +8,5 @@ use Rattle.joining.proofs.join.push_all.Given as goal
 abbrev pub invariant-loop-i : goal.invariant-loop-i
 invariant-loop-i l = record {
   few : l.left.n ≤ l.i;
-  same : stack l.left ≡ after l.source.bytes.now l.source.read.now.rows l.source.read.now.counts l.i;
+  same : stack l.left ≡ after l.source.bytes.now l.source.rows.now l.source.counts.now l.i;
 }

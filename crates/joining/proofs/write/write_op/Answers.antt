@@ -5,10 +5,10 @@ use Rattle.joining.proofs.write.write_op.Goals as goal
 use Rattle.joining.proofs.write.write_op.Goals.{After-has_value}
 
 writes : (c : After-has_value) → let a = c.args in let r = a.source.now in
-    Writes r.bytes.now r.read.now.rows r.read.now.counts r.read.now.payloads a.out.now r.ops a.entry a.at c.payload-from.result c.has_value.result
+    Writes r.bytes.now r.rows.now r.counts.now r.payloads.now a.out.now r.ops a.entry a.at c.payload-from.result c.has_value.result
 writes c =
-    let r = c.args.source.now.read.now in
-    let own = own_by r.rows r.counts c.args.entry c.seen.ensures c.has_value.ensures in
+    let r = c.args.source.now in
+    let own = own_by r.rows.now r.counts.now c.args.entry c.seen.ensures c.has_value.ensures in
     search
 
 pub overflow_sub-from : goal.overflow_sub-from

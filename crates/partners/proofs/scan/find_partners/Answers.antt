@@ -1,11 +1,22 @@
 -- `partners::scan::find_partners` meets its contract. Assumes nothing.
+use mathlib.Core.Path.{◌≡◌, ◌∙◌, sym}
 use Prim.Native.Nat.{◌≤◌, ◌<◌}
 use native.Mathlib.Omega.{arith}
 use lib.ListN.{length}
+use borrow.Author.Tests.{eqb-true}
 use Rattle.partners.specs.Columns.{functions_of}
 use Rattle.partners.proofs.Kept.{kept_first, kept_last, pass_asks, kept_turn}
 use Rattle.partners.proofs.Marks.{marks_first, marks_last, mark_asks, marks_turn}
 use Rattle.partners.proofs.scan.find_partners.Goals as goal
+
+pub returns-then-is_empty : goal.returns-then-is_empty
+returns-then-is_empty c =
+    let p = c.requires in
+    let z : length c.args.rows.now ≡ 0 = eqb-true _ _ (sym c.is_empty.ensures ∙ c.if-is_empty.true) in
+    let f : length c.args.marks.now ≡ 256 = omega arith in
+    let k = kept_last _ p.0 _ _ z (kept_first _ p.0) in
+    let m = marks_last _ c.args.marks.now _ _ _ z (marks_first _ _ 256 f) in
+    record { partners_after = rw p.1 k.0; turns_after = rw p.2 k.1; rows_value = (omega (arith, m.0), m.1) }
 
 pub scan-init : goal.scan-init
 scan-init c =

@@ -9,15 +9,15 @@ loop-rest-init c = (omega arith, omega arith, c.requires, append-nil _, refl)
 pub loop-rest-preserved : goal.loop-rest-preserved
 loop-rest-preserved c =
     let at = c.loop-rest in
-    let f = digits_fit at.i at.rest c.loop-rest-test.true at.invariant.2 in (
+    let f = digits_fit at.text.from at.rest c.loop-rest-test.true at.invariant.2 in (
       omega (arith, f.0),
       omega arith,
       f.1,
-      digit_more at.chars at.i at.rest (omega arith) (rw at.invariant.4 at.invariant.1) c.loop-rest-test.true ∙ at.invariant.3,
+      digit_more at.text.chars at.text.from at.rest (omega arith) (rw at.invariant.4 at.invariant.1) c.loop-rest-test.true ∙ at.invariant.3,
       simp length-set at.invariant.4,
     )
 
 pub returns : goal.returns
 returns c =
     let at = c.loop-rest in
-    (digit_last at.chars at.i at.rest (omega arith) (omega arith) c.loop-rest-test.false ∙ at.invariant.3, omega arith, omega arith)
+    (digit_last at.text.chars at.text.from at.rest (omega arith) (omega arith) c.loop-rest-test.false ∙ at.invariant.3, omega arith, omega arith)

@@ -5,7 +5,7 @@ use Rattle.testing_device.proofs.output.digits_of.Given as goal
 
 abbrev pub invariant-loop-rest : goal.invariant-loop-rest
 invariant-loop-rest l =
-    (1 < l.i) × (l.i ≤ 20) × (l.rest < 10 ^ (l.i - 1)) × (decimal l.i l.rest ++ drop l.i l.chars ≡ decimal 20 l.n) × (length l.chars ≡ 20)
+    (1 < l.text.from) × (l.text.from ≤ 20) × (l.rest < 10 ^ (l.text.from - 1)) × (decimal l.text.from l.rest ++ drop l.text.from l.text.chars ≡ decimal 20 l.n) × (length l.text.chars ≡ 20)
 
 abbrev pub decreases-loop-rest : goal.decreases-loop-rest
 decreases-loop-rest l = l.rest

@@ -12,7 +12,7 @@ returns-then-value-lt9223372036854775808 c = (rw (lt-ltb _ _ c.if-value-lt922337
 pub returns : goal.returns
 unfolding written
 returns c =
-    let d = c.digits_of-digits in let r = d.result in let v = c.args.value in
+    let d = c.digits_of-text in let r = d.result in let v = c.args.value in
     let e : length r.chars ≡ 20 = search rules in
     let q : 18446744073709551615 - v + 1 ≡ 2 ^ 64 - v = omega arith in (
       rw (le-ltb v (2 ^ 63) c.if-value-lt9223372036854775808.false)

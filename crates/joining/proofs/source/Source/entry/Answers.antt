@@ -6,8 +6,8 @@ use Rattle.joining.proofs.Records.{own_by, value_within, entry_none, entry_own}
 use Rattle.joining.proofs.source.Source.entry.Goals as goal
 use Rattle.joining.proofs.source.Source.entry.Goals.{After-has_value}
 
-own : (c : After-has_value) → let r = c.args.self.now.read.now in c.has_value.result ≡ valued (get_or r.rows c.args.i 0) (get_or r.counts c.args.i 0)
-own c = let r = c.args.self.now.read.now in own_by r.rows r.counts (entry c.args.i 0) c.seen.ensures c.has_value.ensures
+own : (c : After-has_value) → let r = c.args.self.now in c.has_value.result ≡ valued (get_or r.rows.now c.args.i 0) (get_or r.counts.now c.args.i 0)
+own c = let r = c.args.self.now in own_by r.rows.now r.counts.now (entry c.args.i 0) c.seen.ensures c.has_value.ensures
 
 pub returns-then-not-has_value : goal.returns-then-not-has_value
 returns-then-not-has_value c =

@@ -10,5 +10,5 @@ pub returns-in-Sum-clause-value : goal.returns-in-Sum-clause-value
 returns-in-Sum-clause-value t c =
     let s = c.args.self.now in
     top_down_new s.ops s.values s.n _ c.if-self-eq0.false (omega (arith, s.few))
-    ∙ pushed_sum c.args.read.now.rows c.args.read.now.counts s.ops s.values s.n c.args.next c.in-Sum.sum c.if-self-eq0.false
+    ∙ pushed_sum c.args.rows.now c.args.counts.now s.ops s.values s.n c.args.next c.in-Sum.sum c.if-self-eq0.false
     (sym (ap₂ (λ (y x : Seen). meet y.row y.count y.value x.row x.count x.value) c.seen.ensures c.seen-2.ensures) ∙ sym c.meets.ensures ∙ c.in-Sum.is)
